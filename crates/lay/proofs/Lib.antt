@@ -1,0 +1,5 @@
+pub mod Tests
+pub mod Below
+pub mod Bytes
+pub mod Parts
+pub mod Fields
