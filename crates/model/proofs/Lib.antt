@@ -1,0 +1,4 @@
+pub mod Geometry
+pub mod Laying
+pub mod Views
+pub mod WallCase

@@ -1,0 +1,13 @@
+pub mod Content
+pub mod Limits
+pub mod Samples
+pub mod Rules
+pub mod Identifiers
+pub mod Lawful
+pub mod Frame
+pub mod Stored
+pub mod View
+pub mod Write
+pub mod Accepts
+pub mod Facts
+pub mod Wall
