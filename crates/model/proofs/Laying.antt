@@ -2,18 +2,17 @@
 use mathlib.Core.Path.{_≡_}
 use mathlib.Core.Bool.{true}
 use mathlib.Core.List.{List}
-use Prim.Native.Nat.{ℕ, _+_, _≤_, _<_}
+use Prim.Native.Nat.{ℕ, _<_}
 use native.Mathlib.Omega.{arith}
 use borrow.Author.Tests.{leb-true, eqb-true, le-leb, eq-eqb}
 use lib.Dec.{eqb}
-use lib.ListN.{length}
 use Rattle.lay.specs.Below.{sum}
 use Rattle.lay.proofs.Tests.{rule, none, both}
 use Rattle.lay.proofs.Below.{all-below, all-made, sum-up}
 use Rattle.model.specs.Limits.{base}
 use Rattle.model.specs.Stored.{parametersIn, samplesIn, sampleCountIn, textLengthIn, firstComponentIn, componentCountIn}
 use Rattle.model.specs.Accepts.{headOk, entryOk, entriesOk, rowsOk, accepts}
-use Rattle.model.specs.Facts.{Sized, Head, Entry, Entries, Rows, Laid, ParameterHere, SampleHere}
+use Rattle.model.specs.Facts.{Head, Entry, Entries, Rows, Laid, ParameterHere, SampleHere}
 
 pub head : (b : List ℕ) → headOk base b ≡ true → Head b
 unfolding headOk

@@ -1,4 +1,5 @@
 pub mod Geometry
 pub mod Laying
 pub mod Views
+pub mod Meanings
 pub mod WallCase

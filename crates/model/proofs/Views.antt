@@ -1,14 +1,13 @@
 -- What the view says stands where it is stored. Assumes nothing.
-use mathlib.Core.Path.{_≡_, refl, sym, ap, ap₂, _∙_}
-use mathlib.Core.List.{List, _++_}
+use mathlib.Core.Path.{_≡_, sym, ap, _∙_}
+use mathlib.Core.List.{List}
 use Prim.Native.Nat.{ℕ, _+_, _≤_, _<_}
-use native.Mathlib.Nat.{add-assoc}
 use native.Mathlib.Omega.{arith}
 use lib.ListN.{length, getD, length-append}
 use Rattle.lay.specs.Below.{sum, tab, flat}
-use Rattle.lay.proofs.Below.{sum-same, length-tab, getD-tab, tab-same, flat-same, flat-tab}
+use Rattle.lay.proofs.Below.{sum-same, length-tab, getD-tab, flat-same, flat-tab}
 use Rattle.lay.proofs.Bytes.{length-part}
-use Rattle.model.specs.Content.{Component, Sample, Parameter, Subframe, noComponent, noSample, noParameter, noSubframe, subframe, parameter, sample, component, subframes, parameters, allSamples, allComponents, firstSample, firstComponent}
+use Rattle.model.specs.Content.{Sample, Parameter, noComponent, noSample, noParameter, noSubframe, subframe, parameter, sample, component, subframes, parameters, allSamples, allComponents, firstSample, firstComponent}
 use Rattle.model.specs.Stored.{subframesIn, parametersIn, samplesIn, componentsIn, textPart, nameLengthIn, mnemonicLengthIn, identificationLengthIn, textLengthIn, textStartIn, firstSampleIn, sampleCountIn, firstComponentIn, componentCountIn, nameIn, mnemonicIn, identificationIn}
 use Rattle.model.specs.View.{subframeAt, componentAt, sampleAt, parameterAt, view}
 use Rattle.model.specs.Write.{texts, textStart}
