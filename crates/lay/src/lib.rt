@@ -5,21 +5,21 @@ ghost use lib.ListN.{length};
 ghost use Rattle.lay.specs.Bytes.{numAt, same};
 
 // The number in one byte, in two, in four and in eight.
-pub fn one_at(t: &[u8], o: usize) -> u32
+pub fn one_at(t: &[u8], o: usize) -> usize
     requires { ⌜ o + 1 ≤ length (now t) ⌝ }
     ensures { λ r. ⌜ (r ≡ numAt 1 (now (t .entry)) o) × (r < 256) ⌝ }
 {
-    t[o] as u32
+    t[o] as usize
 }
 
-pub fn two_at(t: &[u8], o: usize) -> u32
+pub fn two_at(t: &[u8], o: usize) -> usize
     requires { ⌜ o + 2 ≤ length (now t) ⌝ }
     ensures { λ r. ⌜ (r ≡ numAt 2 (now (t .entry)) o) × (r < 65536) ⌝ }
 {
     one_at(t, o) + 256 * one_at(t, o + 1)
 }
 
-pub fn four_at(t: &[u8], o: usize) -> u32
+pub fn four_at(t: &[u8], o: usize) -> usize
     requires { ⌜ o + 4 ≤ length (now t) ⌝ }
     ensures { λ r. ⌜ (r ≡ numAt 4 (now (t .entry)) o) × (r < 4294967296) ⌝ }
 {
