@@ -1,0 +1,4 @@
+pub mod Homes
+pub mod TextLaws
+pub mod Samplings
+pub mod Parameters

@@ -1,0 +1,31 @@
+-- Samples stand behind the parameters.
+use denote.Ref.{now}
+use native.Mathlib.Omega.{arith}
+use Rattle.model.specs.Stored.{sampleEntry}
+use Rattle.model.proofs.Geometry.{sample-ends}
+use borrow.Author.Needs.{needs}
+use Rattle.table.proofs.stored.sample_entry.Statement.{statement}
+use Rattle.table.proofs.stored.sample_entry.Tie as tie
+
+starts-of-requires : tie.Need-starts-of-requires
+starts-of-requires c κs = search needs
+
+mul-result : tie.Need-mul-result
+mul-result c = search needs
+
+add-result : tie.Need-add-result
+unfolding sampleEntry
+add-result c =
+    let s = c .before .before .before in
+    let e = sample-ends (now (s .args .t)) (s .args .j) (s .pre .1) in
+    omega (arith, c .before .starts-of .ensures)
+
+returns : tie.Need-returns
+unfolding sampleEntry
+returns c =
+    let s = c .before .before .before in
+    let e = sample-ends (now (s .args .t)) (s .args .j) (s .pre .1) in
+    record { is = omega arith; ends = omega arith }
+
+pub sample-entry-spec : {M : Type 1} → statement M
+sample-entry-spec = tie.close (tie.spec starts-of-requires mul-result add-result returns)
