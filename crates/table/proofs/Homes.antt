@@ -1,10 +1,9 @@
 -- What the check's walks share: the subframe of a component, and the words before it. Assumes nothing.
-use mathlib.Core.Path.{_≡_, refl, sym, ap, _∙_}
+use mathlib.Core.Path.{_≡_, ap, _∙_}
 use mathlib.Core.List.{List}
 use Prim.Native.Nat.{ℕ, _+_, _-_, _≤_, _<_}
 use native.Mathlib.Omega.{arith}
 use lib.ListN.{length, getD}
-use Rattle.lay.specs.Below.{tab}
 use Rattle.lay.proofs.Below.{length-tab, getD-tab}
 use Rattle.sample.specs.Flat.{before}
 use Rattle.sample.proofs.Flats.{before-first, before-next}
@@ -12,7 +11,7 @@ use Rattle.model.specs.Content.{Subframe, noSubframe}
 use Rattle.model.specs.Samples.{wordCounts}
 use Rattle.model.specs.Rules.{home}
 use Rattle.model.specs.Stored.{subframesIn, bitsIn, wordsIn, homeIn}
-use Rattle.model.specs.View.{subframeAt, componentAt, view}
+use Rattle.model.specs.View.{subframeAt, componentAt}
 use Rattle.model.proofs.Views.{subframes-view, subframe-view}
 use Rattle.table.specs.Ruled.{subframesOf}
 

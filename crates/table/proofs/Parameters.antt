@@ -1,6 +1,6 @@
 -- One parameter's rule, over the bytes and over the view. Assumes nothing.
-use mathlib.Core.Path.{_≡_, sym, ap, ap₂, _∙_, subst}
-use mathlib.Core.Bool.{true, false, _||_}
+use mathlib.Core.Path.{_≡_, sym, ap, _∙_, subst}
+use mathlib.Core.Bool.{true, _||_}
 use mathlib.Core.List.{List}
 use Prim.Native.Nat.{ℕ, _+_, _≤_, _<_}
 use native.Mathlib.Omega.{arith}
@@ -9,14 +9,14 @@ use lib.Dec.{eqb}
 use lib.ListN.{length}
 use Rattle.lay.proofs.Tests.{rule, none, both}
 use Rattle.lay.proofs.Below.{all-below, all-made}
-use Rattle.model.specs.Content.{Sample, Parameter, Subframe, sample}
+use Rattle.model.specs.Content.{Sample, sample}
 use Rattle.model.specs.Limits.{base}
 use Rattle.model.specs.Samples.{widthOf}
 use Rattle.model.specs.Rules.{sampleOk, parameterOk}
 use Rattle.model.specs.Stored.{firstSampleIn, sampleCountIn, valueIn}
 use Rattle.model.specs.View.{sampleAt, identifierIn, parameterAt}
 use Rattle.model.specs.Meaning.{SampleLaw, ParameterLaw}
-use Rattle.model.proofs.Meanings.{or-then, text-law, text-made, sample-law, sample-made, parameter-law, parameter-made}
+use Rattle.model.proofs.Meanings.{or-then, text-law, text-made, sample-law, sample-made, parameter-made}
 use Rattle.model.proofs.Views.{samples-at, sample-at}
 use Rattle.table.specs.Ruled.{subframesOf, SamplesHere, textsOk, samplesOk, alike}
 use Rattle.table.proofs.Samplings.{stored}

@@ -1,5 +1,5 @@
 -- What the check's walk over a sample shares: its components' facts over the bytes and over the view. Assumes nothing.
-use mathlib.Core.Path.{_≡_, sym, ap, _∙_, subst}
+use mathlib.Core.Path.{_≡_, sym, ap, subst}
 use mathlib.Core.Bool.{true}
 use mathlib.Core.List.{List}
 use Prim.Native.Nat.{ℕ, _+_, _≤_, _<_}
@@ -13,10 +13,10 @@ use Rattle.sample.specs.Joining.{width}
 use Rattle.sample.specs.Promise.{listed, Measurable}
 use Rattle.model.specs.Content.{Component, Subframe, noSubframe, component}
 use Rattle.model.specs.Limits.{base}
-use Rattle.model.specs.Samples.{pieces, widthOf}
+use Rattle.model.specs.Samples.{widthOf}
 use Rattle.model.specs.Rules.{componentOk}
 use Rattle.model.specs.Stored.{subframesIn, firstComponentIn, componentCountIn}
-use Rattle.model.specs.View.{subframeAt, componentAt, sampleAt}
+use Rattle.model.specs.View.{componentAt, sampleAt}
 use Rattle.model.specs.Meaning.{ComponentLaw, SampleLaw}
 use Rattle.model.proofs.Meanings.{component-law, component-made}
 use Rattle.model.proofs.Pieces.{pieces-shaped}

@@ -1,3 +1,4 @@
 pub mod Entry
 pub mod Ruled
 pub mod Part
+pub mod Answers

@@ -1,7 +1,10 @@
 // Location tables.
 pub mod bases;
+pub mod check;
+pub mod identifiers;
 pub mod layout;
 pub mod names;
+pub mod naming;
 pub mod rules;
 pub mod samples;
 pub mod stored;

@@ -1,7 +1,6 @@
 -- The flag, or else the value.
 use mathlib.Core.Bool.{or-true}
 use borrow.Author.Tests.{eq-eqb, ne-eqb}
-use borrow.Author.Needs.{needs}
 use Rattle.table.proofs.rules.value_ok.Statement.{statement}
 use Rattle.table.proofs.rules.value_ok.Tie as tie
 

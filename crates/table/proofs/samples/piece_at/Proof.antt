@@ -1,7 +1,7 @@
 -- The word stands so far behind the words before its subframe.
 use mathlib.Core.Path.{_≡_, ap, ap₂, _∙_}
 use denote.Ref.{now}
-use Prim.Native.Nat.{ℕ, _+_, _-_, _≤_}
+use Prim.Native.Nat.{ℕ, _+_, _-_}
 use native.Mathlib.Omega.{arith}
 use Rattle.sample.specs.Flat.{before, position}
 use Rattle.model.specs.Samples.{wordCounts, piece}
