@@ -19,7 +19,7 @@ use Rattle.model.specs.Accepts.{accepts}
 use Rattle.model.proofs.Views.{parameters-view, parameter-view}
 use Rattle.table.specs.declared.naming.Asked.{Asked}
 use Rattle.table.specs.declared.naming.Asked.the-variants.{Parameter as At, NoTable, NoParameter}
-use Rattle.table.specs.Part.{Own}
+use Rattle.rules.specs.Part.{Own}
 use Rattle.table.specs.Answers.{numbered, mnemonicIs, called, askedNumber, askedMnemonic, nameAnswered, placeAnswered, NameOf}
 
 -- parameter i has this mnemonic

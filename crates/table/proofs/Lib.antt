@@ -1,8 +1,3 @@
-pub mod Homes
-pub mod TextLaws
-pub mod Samplings
-pub mod Parameters
 pub mod Lawfully
-pub mod Identifying
-pub mod Asking
 pub mod Accepting
+pub mod Asking

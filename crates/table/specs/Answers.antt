@@ -12,7 +12,7 @@ use Rattle.model.specs.Content.{Content, parameter, parameters}
 use Rattle.model.specs.Stored.{textPart, textStartIn}
 use Rattle.model.specs.View.{view}
 use Rattle.model.specs.Accepts.{accepts}
-use Rattle.table.specs.Part.{Own}
+use Rattle.rules.specs.Part.{Own}
 use Rattle.table.specs.declared.check.Checked.{Checked}
 use Rattle.table.specs.declared.check.Checked.the-variants.{Table, NotTable}
 use Rattle.table.specs.declared.naming.Asked.{Asked}

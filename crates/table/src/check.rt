@@ -8,18 +8,18 @@ ghost use Rattle.model.specs.Stored.{subframesIn, parametersIn};
 ghost use Rattle.model.specs.View.{subframeAt, parameterAt, view};
 ghost use Rattle.model.specs.Accepts.{accepts};
 ghost use Rattle.model.specs.Facts.{Sized, Entries, Rows, Laid};
-ghost use Rattle.table.specs.Ruled.{subframesOf, SubframesLaw, BasesOf};
+ghost use Rattle.rules.specs.Ruled.{subframesOf, SubframesLaw, BasesOf};
 ghost use Rattle.table.specs.Answers.{checkOf};
-use super::bases::Bases;
-use super::bases::bases_of;
-use super::identifiers::identifiers_ok;
-use super::layout::entries_ok;
-use super::layout::head_ok;
-use super::layout::rows_ok;
-use super::names::names_ok;
-use super::rules::parameter_ok;
-use super::rules::subframe_ok;
-use super::stored::counts_of;
+use rules::bases::Bases;
+use rules::bases::bases_of;
+use rules::entries::parameter_ok;
+use rules::entries::subframe_ok;
+use rules::identifiers::identifiers_ok;
+use rules::names::names_ok;
+use stored::items::counts_of;
+use stored::layout::entries_ok;
+use stored::layout::head_ok;
+use stored::layout::rows_ok;
 
 // What a check answers.
 pub enum Checked {

@@ -4,9 +4,9 @@ ghost use Rattle.model.specs.Facts.{Sized, Entries};
 ghost use Rattle.model.specs.View.{view};
 ghost use Rattle.table.specs.Answers.{mnemonicIs, askedNumber, askedMnemonic, askedRefusal, NameOf};
 use super::check::is_table;
-use super::stored::counts_of;
-use super::texts::mnemonic_in;
-use super::texts::name_in;
+use rules::texts::mnemonic_in;
+use rules::texts::name_in;
+use stored::items::counts_of;
 
 // Which parameter a call asks for, counted from 0, or the refusal.
 pub enum Asked {

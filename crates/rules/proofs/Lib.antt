@@ -1,0 +1,5 @@
+pub mod Homes
+pub mod Samplings
+pub mod Parameters
+pub mod TextLaws
+pub mod Identifying
