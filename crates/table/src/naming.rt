@@ -19,7 +19,8 @@ pub enum Asked {
 pub fn ask_number(t: &[u8], number: u32) -> Asked
     ensures { λ r. ⌜ r ≡ askedNumber (now (t .entry)) number ⌝ }
 {
-    if !is_table(t) {
+    let accepted = is_table(t);
+    if !accepted {
         return Asked::NoTable;
     }
     let p = number as usize;
