@@ -1,10 +1,10 @@
 -- Number 0 and a name that is not empty go together. Assumes nothing.
-use mathlib.Core.Path.{_≡_, refl, sym, ap, _∙_, subst}
+use mathlib.Core.Path.{_≡_, refl}
 use mathlib.Core.List.{List, []}
-use Prim.Native.Nat.{ℕ, _≤_, _<_}
+use Prim.Native.Nat.{ℕ, _≤_}
 use native.Mathlib.Omega.{arith}
 use lib.ListN.{length}
-use Rattle.model.specs.Content.{Parameter, parameter, parameters}
+use Rattle.model.specs.Content.{parameter}
 use Rattle.model.specs.Limits.{base}
 use Rattle.model.specs.View.{view}
 use Rattle.model.proofs.Meanings.{lawful-law}

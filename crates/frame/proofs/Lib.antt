@@ -1,0 +1,5 @@
+pub mod Listed
+pub mod WantCases
+pub mod Fitness
+pub mod PlaceCases
+pub mod Answered

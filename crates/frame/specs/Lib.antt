@@ -1,0 +1,4 @@
+pub mod Fitting
+pub mod Wanted
+pub mod Reading
+pub mod Placing
