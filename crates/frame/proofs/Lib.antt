@@ -3,3 +3,4 @@ pub mod WantCases
 pub mod Fitness
 pub mod PlaceCases
 pub mod Answered
+pub mod CompareCases

@@ -102,3 +102,10 @@ module _ (b f : List ℕ) (i j : ℕ) (l : i < parametersIn b) where
   pub value-plain : signedIn b i ≡ false → valueOf (view b) f i j ≡ pos (rawOf (view b) f i j)
   unfolding valueOf
   value-plain e = rw (sign-at ∙ e)
+
+-- a lawful parameter has a first sample
+pub first-one : (b : List ℕ) (i : ℕ) → Ruled b → i < parametersIn b → 0 < sampleCountIn b i
+first-one b i r l =
+    let n = samples-at b i in
+    let p = r .parameters .each i l .some in
+    omega arith

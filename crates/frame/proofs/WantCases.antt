@@ -78,7 +78,7 @@ by-fit Fits k l i j e = (refl, (cc), (cc))
 by-fit WrongCount k l i j e = absurd (let z : _≡_ {A = ℕ} 0 1 = cc in omega arith)
 by-fit TooHigh k l i j e = absurd (let z : _≡_ {A = ℕ} 0 1 = cc in omega arith)
 
-fits-long : (c : Content) (f : List ℕ) → fitOf c f ≡ Fits → length f ≡ frameWords c
+pub fits-long : (c : Content) (f : List ℕ) → fitOf c f ≡ Fits → length f ≡ frameWords c
 unfolding fitOf
 fits-long c f e = go (eqb (length f) (frameWords c)) refl e
   where
