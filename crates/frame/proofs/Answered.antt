@@ -52,12 +52,17 @@ module _ (b f : List ℕ) (p s : ℕ) (h : accepts b ≡ true) (m : meets (view 
   unfolding readOf readFor
   answered = ap (λ (w : Wanted). readFor (view b) f w) listed
 
+  -- the sample is one of a lawful table
+  pub lawful-sample : SampleLaw base (view b .subframes) (sample (parameter (view b) (p - 1)) (s - 1))
+  lawful-sample =
+      let v = parameters-view b in
+      let q = lawful-law base (view b) (accepts-lawful b h) .eachParameter (p - 1) (omega arith) in
+      let e = ap (λ (x : Parameter). length (x .samples)) (parameter-view b (p - 1) (omega arith)) ∙ samples-at b (p - 1) in
+      q .each (s - 1) (omega (arith, e))
+
   -- its width is from 1 to 32
   pub width-range : (1 ≤ widthIs (view b) (p - 1) (s - 1)) × (widthIs (view b) (p - 1) (s - 1) ≤ 32)
   unfolding widthIs
   width-range =
-      let v = parameters-view b in
-      let q = lawful-law base (view b) (accepts-lawful b h) .eachParameter (p - 1) (omega arith) in
-      let e = ap (λ (x : Parameter). length (x .samples)) (parameter-view b (p - 1) (omega arith)) ∙ samples-at b (p - 1) in
-      let r : SampleLaw base (view b .subframes) (sample (parameter (view b) (p - 1)) (s - 1)) = q .each (s - 1) (omega (arith, e)) in
+      let r = lawful-sample in
       (width-some (view b .subframes) (sample (parameter (view b) (p - 1)) (s - 1)) (r .each) (r .some), r .narrow)

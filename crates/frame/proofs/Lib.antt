@@ -4,3 +4,5 @@ pub mod Fitness
 pub mod PlaceCases
 pub mod Answered
 pub mod CompareCases
+pub mod PlaceRead
+pub mod Agree
