@@ -6,3 +6,4 @@ pub mod Answered
 pub mod CompareCases
 pub mod PlaceRead
 pub mod Agree
+pub mod ComparePasses
