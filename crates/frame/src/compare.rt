@@ -7,7 +7,7 @@ ghost use Rattle.model.specs.Stored.{parametersIn};
 ghost use Rattle.model.specs.View.{view};
 ghost use Rattle.rules.specs.Ruled.{Ruled, BasesOf};
 ghost use Rattle.frame.specs.Reading.{rawOf};
-ghost use Rattle.frame.specs.Comparing.{differsAt, differsIn, comparedIn, comparedOf};
+ghost use Rattle.frame.specs.Comparing.{differsAt, differsIn, comparedIn, comparedOf, comparedNumber};
 use super::fit::Fit;
 use super::fit::fit_of;
 use rules::bases::Bases;
@@ -112,5 +112,18 @@ pub fn compare(t: &[u8], words: &[u16]) -> Compared
         Fit::Fits => compare_in(t, words, bases),
         Fit::WrongCount => Compared::OtherCount,
         Fit::TooHigh => Compared::HighWord,
+    }
+}
+
+// 01's number of the answer; 0 where it passes.
+pub fn compare_number(a: Compared) -> u32
+    ensures { λ n. ⌜ n ≡ comparedNumber a ⌝ }
+{
+    match a {
+        Compared::Passes => 0,
+        Compared::NoTable => 18,
+        Compared::OtherCount => 19,
+        Compared::HighWord => 20,
+        Compared::Differs(_) => 24,
     }
 }

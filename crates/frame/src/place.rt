@@ -10,9 +10,10 @@ ghost use Rattle.model.specs.Stored.{parametersIn, sampleCountIn};
 ghost use Rattle.model.specs.View.{view};
 ghost use Rattle.rules.specs.Ruled.{subframesOf, Ruled, BasesOf};
 ghost use Rattle.frame.specs.Reading.{widthIs};
-ghost use Rattle.frame.specs.Placing.{placeOf, placedOf};
+ghost use Rattle.frame.specs.Placing.{placeOf, placedOf, placeNumber};
 use super::want::Wanted;
 use super::want::sample_wanted;
+use super::want::wanted_number;
 use rules::bases::Bases;
 use rules::bases::bases_of;
 use rules::samples::pieces_at;
@@ -72,5 +73,16 @@ pub fn place(t: &[u8], words: &mut [u16], parameter: u32, sample: u32, value: u6
         Wanted::NoSample => Placed::Refused(wanted),
         Wanted::OtherCount => Placed::Refused(wanted),
         Wanted::HighWord => Placed::Refused(wanted),
+    }
+}
+
+// 01's number of the answer; 0 where the value is placed.
+pub fn place_number(p: Placed) -> u32
+    ensures { λ n. ⌜ n ≡ placeNumber p ⌝ }
+{
+    match p {
+        Placed::Done => 0,
+        Placed::Refused(w) => wanted_number(w),
+        Placed::TooLarge => 23,
     }
 }

@@ -6,9 +6,10 @@ ghost use Rattle.model.specs.Frame.{frameWords};
 ghost use Rattle.model.specs.Stored.{parametersIn, sampleCountIn};
 ghost use Rattle.model.specs.View.{view};
 ghost use Rattle.rules.specs.Ruled.{Ruled, BasesOf};
-ghost use Rattle.frame.specs.Reading.{sampleRead, readOf};
+ghost use Rattle.frame.specs.Reading.{sampleRead, readOf, readNumber};
 use super::want::Wanted;
 use super::want::sample_wanted;
+use super::want::wanted_number;
 use rules::bases::Bases;
 use rules::bases::bases_of;
 use rules::samples::pieces_at;
@@ -64,5 +65,19 @@ pub fn read(t: &[u8], words: &[u16], parameter: u32, sample: u32) -> Reading
         Wanted::NoSample => Reading::Refused(wanted),
         Wanted::OtherCount => Reading::Refused(wanted),
         Wanted::HighWord => Reading::Refused(wanted),
+    }
+}
+
+// 01's number of the answer; 0 for a sample.
+pub fn read_number(r: Reading) -> u32
+    ensures { λ n. ⌜ n ≡ readNumber r ⌝ }
+{
+    match r {
+        Reading::Sample {
+            raw: _,
+            width: _,
+            value: _,
+        } => 0,
+        Reading::Refused(w) => wanted_number(w),
     }
 }

@@ -1,6 +1,6 @@
 // Which sample a call wants: 18, 21, 22, 19, 20, for reading and placing alike.
 ghost use mathlib.Core.Path.{_≡_};
-ghost use Rattle.frame.specs.Wanted.{wantedOf};
+ghost use Rattle.frame.specs.Wanted.{wantedOf, wantedNumber};
 use super::fit::Fit;
 use super::fit::fit_of;
 use rules::bases::bases_of;
@@ -47,5 +47,19 @@ pub fn sample_wanted(t: &[u8], words: &[u16], parameter: u32, sample: u32) -> Wa
         Fit::Fits => Wanted::Listed(i, s - 1),
         Fit::WrongCount => Wanted::OtherCount,
         Fit::TooHigh => Wanted::HighWord,
+    }
+}
+
+// 01's number of the reason; 0 for a listed sample.
+pub fn wanted_number(w: Wanted) -> u32
+    ensures { λ r. ⌜ r ≡ wantedNumber w ⌝ }
+{
+    match w {
+        Wanted::Listed(_, _) => 0,
+        Wanted::NoTable => 18,
+        Wanted::NoParameter => 21,
+        Wanted::NoSample => 22,
+        Wanted::OtherCount => 19,
+        Wanted::HighWord => 20,
     }
 }

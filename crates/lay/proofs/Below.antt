@@ -2,13 +2,14 @@
 use Prim.Native.Nat.{ℕ, zero, suc, _+_, _*_, _<_, _≤_}
 use mathlib.Core.Path.{_≡_, refl, sym, ap, ap₂, _∙_}
 use mathlib.Core.Logic.{⊎-elim}
-use mathlib.Core.Bool.{Bool, true, false, _&&_, _||_}
+use mathlib.Core.Bool.{Bool, true, false, cond, _&&_, _||_}
 use mathlib.Core.List.{List, [], _∷_, _++_, append-assoc}
 use native.Mathlib.Nat.{add-zero, mul-zero, mul-suc}
 use native.Mathlib.Numerals.{add-one}
 use native.Mathlib.Omega.{arith}
 use borrow.Author.Count.{below-more}
-use borrow.Author.Tests.{lt-ltb, le-ltb}
+use borrow.Author.Tests.{lt-ltb, le-ltb, ltb-true}
+use lib.Dec.{ltb}
 use lib.ListN.{length, getD, length-append, List·getD-append}
 use lib.Seq.{getD-at, getD-append-add}
 use Rattle.lay.specs.Below.{all, any, sum, tab, flat, find}
@@ -60,6 +61,10 @@ any-made (suc n) p k l h =
     right : (a : Bool) → (a || true) ≡ true
     right true = refl
     right false = refl
+
+pub any-none : (n : ℕ) (p : ℕ → Bool) → ((k : ℕ) → k < n → p k ≡ false) → any n p ≡ false
+any-none zero p h = refl
+any-none (suc n) p h = rw (any-none n p (λ k l. h k (omega arith)), h n (omega arith))
 
 pub any-same : (n : ℕ) (p q : ℕ → Bool) → ((k : ℕ) → k < n → p k ≡ q k) → any n p ≡ any n q
 any-same zero p q h = refl
@@ -180,3 +185,26 @@ find-same zero p q h = refl
 find-same (suc n) p q h =
     let ih = find-same n p q (λ k l. h k (omega arith)) in
     rw (ih, h n (omega arith))
+
+pub find-least : (n : ℕ) (p : ℕ → Bool) (k : ℕ) → k < n → p k ≡ true → find n p ≤ k
+find-least zero p k l h = absurd (omega arith)
+find-least (suc n) p k l h =
+    below-more (λ (j : ℕ). p j ≡ true → find (suc n) p ≤ j) n
+    (λ j m e. let ih = find-least n p j m e in rw (lt-ltb (find n p) n (omega arith)) ih)
+    (λ e. go (ltb (find n p) n) refl e)
+    k
+    (omega arith)
+    h
+  where
+    go : (t : Bool) → ltb (find n p) n ≡ t → p n ≡ true → cond t (find n p) (cond (p n) n (suc n)) ≤ n
+    go true e h = let l : find n p < n = ltb-true _ _ e in let r : find n p ≤ n = omega arith in r
+    go false e h = rw h (omega arith)
+
+pub find-holds : (n : ℕ) (p : ℕ → Bool) → find n p < n → p (find n p) ≡ true
+find-holds zero p l = absurd (omega arith)
+find-holds (suc n) p l = go (λ m. find-holds n p m) (ltb (find n p) n) (p n) refl refl l
+  where
+    go : (find n p < n → p (find n p) ≡ true) → (t u : Bool) → ltb (find n p) n ≡ t → p n ≡ u → cond t (find n p) (cond u n (suc n)) < suc n → p (cond t (find n p) (cond u n (suc n))) ≡ true
+    go ih true u e h m = ih (ltb-true _ _ e)
+    go ih false true e h m = h
+    go ih false false e h m = absurd (omega arith)

@@ -20,7 +20,7 @@ use Rattle.model.proofs.Views.{parameters-view, parameter-view}
 use Rattle.table.specs.declared.naming.Asked.{Asked}
 use Rattle.table.specs.declared.naming.Asked.the-variants.{Parameter as At, NoTable, NoParameter}
 use Rattle.rules.specs.Part.{Own}
-use Rattle.table.specs.Answers.{numbered, mnemonicIs, called, askedNumber, askedMnemonic, nameAnswered, placeAnswered, NameOf}
+use Rattle.table.specs.Answers.{numbered, mnemonicIs, called, askedNumber, askedMnemonic, nameAnswered, placeAnswered, NameOf, Here, AskedHere}
 
 -- parameter i has this mnemonic
 abbrev pub calledAt : List ℕ → List ℕ → ℕ → Bool
@@ -111,10 +111,6 @@ module _ (t r : RefT (List ℕ)) where
 
 -- ---- an asked parameter is one of the table's, and the table is accepted
 
-pub record Here (b : List ℕ) (i : ℕ) : Type 0 where
-  pub accepted : accepts b ≡ true
-  pub here : i < parametersIn b
-
 -- a test that holds or not
 by-test : (t : Bool) (x y : Asked) (i : ℕ) → cond t x y ≡ At i → (y ≡ At i → ⊥) → (t ≡ true) × (x ≡ At i)
 by-test true x y i e n = (refl, e)
@@ -129,9 +125,9 @@ no-parameter-no i e = let z : _≡_ {A = ℕ} 0 1 = cc in omega arith
 at-index : (k i : ℕ) → At k ≡ At i → k ≡ i
 at-index k i e = cc
 
-pub number-asked : (b : List ℕ) (p i : ℕ) → askedNumber b p ≡ At i → Here b i
+number-at : (b : List ℕ) (p i : ℕ) → askedNumber b p ≡ At i → Here b i
 unfolding askedNumber numbered
-number-asked b p i e =
+number-at b p i e =
     let a = by-test (accepts b) _ _ i e (no-table-no i) in
     let n = by-test (leb 1 p && leb p (parameters (view b))) _ _ i (a .1) (no-parameter-no i) in
     let k = at-index (p - 1) i (n .1) in
@@ -139,11 +135,17 @@ number-asked b p i e =
     let high : p ≤ parameters (view b) = leb-true _ _ (and-1 (leb 1 p) _ (n .0)) in
     record { accepted = a .0; here = omega (arith, parameters-view b) }
 
-pub mnemonic-asked : (b m : List ℕ) (i : ℕ) → askedMnemonic b m ≡ At i → Here b i
+mnemonic-at : (b m : List ℕ) (i : ℕ) → askedMnemonic b m ≡ At i → Here b i
 unfolding askedMnemonic called
-mnemonic-asked b m i e =
+mnemonic-at b m i e =
     let a = by-test (accepts b) _ _ i e (no-table-no i) in
     let n = by-test (leb 1 (length m) && ltb (mnemonicIs (view b) m) (parameters (view b))) _ _ i (a .1) (no-parameter-no i) in
     let k = at-index (mnemonicIs (view b) m) i (n .1) in
     let high : mnemonicIs (view b) m < parameters (view b) = ltb-true _ _ (and-1 (leb 1 (length m)) _ (n .0)) in
     record { accepted = a .0; here = omega (arith, parameters-view b) }
+
+pub number-asked : (b : List ℕ) (p : ℕ) → AskedHere b (askedNumber b p)
+number-asked b p = record { each = number-at b p }
+
+pub mnemonic-asked : (b m : List ℕ) → AskedHere b (askedMnemonic b m)
+mnemonic-asked b m = record { each = mnemonic-at b m }

@@ -9,7 +9,7 @@ ghost use Rattle.model.specs.View.{subframeAt, parameterAt, view};
 ghost use Rattle.model.specs.Accepts.{accepts};
 ghost use Rattle.model.specs.Facts.{Sized, Entries, Rows, Laid};
 ghost use Rattle.rules.specs.Ruled.{subframesOf, SubframesLaw, BasesOf};
-ghost use Rattle.table.specs.Answers.{checkOf};
+ghost use Rattle.table.specs.Answers.{checkOf, checkNumber};
 use rules::bases::Bases;
 use rules::bases::bases_of;
 use rules::entries::parameter_ok;
@@ -117,5 +117,15 @@ pub fn check(t: &[u8]) -> Checked
         Checked::Table
     } else {
         Checked::NotTable
+    }
+}
+
+// 01's number of the answer: 0 or 18.
+pub fn check_number(c: Checked) -> u32
+    ensures { λ n. ⌜ n ≡ checkNumber c ⌝ }
+{
+    match c {
+        Checked::Table => 0,
+        Checked::NotTable => 18,
     }
 }

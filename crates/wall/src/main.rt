@@ -4,9 +4,10 @@ ghost use Prim.Native.Nat.{_^_, _≤_};
 ghost use lib.IntN.{pos};
 ghost use lib.Signed.{_≤ℤ_, _<ℤ_};
 use frame::compare::Compared;
-use frame::place::Placed;
+use frame::compare::compare_number;
+use frame::place::place_number;
 use frame::read::Reading;
-use frame::want::Wanted;
+use frame::want::wanted_number;
 use libc::STDOUT_FILENO;
 
 fn text(s: &[u8]) {
@@ -44,21 +45,13 @@ fn value_text(v: i64) {
     number(natural(v));
 }
 
-fn refused(n: u64) {
+// 01's "refused N L": where is the subframe of 24, else 0.
+fn refused(n: u32, where_at: u64) {
     text(b"refused ");
-    number(n);
+    number(n as u64);
+    text(b" ");
+    number(where_at);
     text(b"\n");
-}
-
-fn refusal(w: Wanted) {
-    match w {
-        Wanted::Listed(_i, _j) => refused(0),
-        Wanted::NoTable => refused(18),
-        Wanted::NoParameter => refused(21),
-        Wanted::NoSample => refused(22),
-        Wanted::OtherCount => refused(19),
-        Wanted::HighWord => refused(20),
-    }
 }
 
 fn read_line(table: &[u8], name: &[u8], words: &[u16], parameter: u32) {
@@ -73,7 +66,7 @@ fn read_line(table: &[u8], name: &[u8], words: &[u16], parameter: u32) {
             value_text(value);
             text(b"\n");
         }
-        Reading::Refused(w) => refusal(w),
+        Reading::Refused(w) => refused(wanted_number(w), 0),
     }
 }
 
@@ -86,10 +79,11 @@ fn word_text(words: &[u16], at: usize) {
 // A value placed in Pitch, and the words afterwards.
 fn place_line(table: &[u8], value: u64) {
     let mut words: [u16; 4] = [583, 5, 0, 6];
-    match frame::place::place(table, &mut words, 2, 1, value) {
-        Placed::Done => text(b"placed "),
-        Placed::Refused(w) => refusal(w),
-        Placed::TooLarge => refused(23),
+    let n = place_number(frame::place::place(table, &mut words, 2, 1, value));
+    if n == 0 {
+        text(b"placed ");
+    } else {
+        refused(n, 0);
     }
     word_text(&words, 0);
     text(b",");
@@ -102,16 +96,18 @@ fn place_line(table: &[u8], value: u64) {
 }
 
 fn compare_line(table: &[u8], words: &[u16]) {
-    match frame::compare::compare(table, words) {
-        Compared::Passes => text(b"passes\n"),
-        Compared::NoTable => refused(18),
-        Compared::OtherCount => refused(19),
-        Compared::HighWord => refused(20),
-        Compared::Differs(s) => {
-            text(b"24 at ");
-            number(s as u64);
-            text(b"\n");
-        }
+    let a = frame::compare::compare(table, words);
+    let n = compare_number(a);
+    if n == 0 {
+        text(b"passes\n");
+        return;
+    }
+    match a {
+        Compared::Differs(s) => refused(n, s as u64),
+        Compared::Passes => refused(n, 0),
+        Compared::NoTable => refused(n, 0),
+        Compared::OtherCount => refused(n, 0),
+        Compared::HighWord => refused(n, 0),
     }
 }
 

@@ -1,11 +1,12 @@
 -- 18, 21, 22, then what the frame turns out to be.
-use mathlib.Core.Path.{sym, ap, _∙_}
+use mathlib.Core.Path.{_≡_, sym, ap, _∙_}
+use denote.Ref.{now}
 use Prim.Native.Nat.{_-_}
 use native.Mathlib.Omega.{arith}
 use borrow.Author.Tests.{not-true, not-false}
 use Rattle.model.proofs.Laying.{accepted-laid}
 use Rattle.table.proofs.Accepting.{accepted-ruled}
-use Rattle.frame.specs.Wanted.{fitted}
+use Rattle.frame.specs.Wanted.{fitted, wantedOf}
 use Rattle.frame.specs.declared.fit.Fit.{Fit}
 use Rattle.frame.proofs.WantCases.{want-no-table, parameter-low, parameter-high, sample-low, sample-high, sample-here}
 use borrow.Author.Needs.{needs}
@@ -52,26 +53,24 @@ enum-told-2 c = search needs
 enum-told-3 : tie.Need-enum-told-3
 enum-told-3 c = search needs
 
+-- the numbers name a sample of the table, so that the frame's fit decides
+decided : (c : tie.After-fit-of) (d : Fit) → c .fit-of .result ≡ d → wantedOf (now (c .before .before .before .before .before .before .before .before .before .before .before .before .before .before .args .t)) (now (c .before .before .before .before .before .before .before .before .before .before .before .before .before .before .args .words)) (c .before .before .before .before .before .before .before .before .before .before .before .before .before .before .args .parameter) (c .before .before .before .before .before .before .before .before .before .before .before .before .before .before .args .sample) ≡ fitted d (c .before .before .before .before .before .before .before .before .before .before .before .before .before .before .args .parameter - 1) (c .before .before .before .before .before .before .before .before .before .before .before .before .before .before .args .sample - 1)
+decided c d e =
+    let accepted = sym (c .before .before .before .before .before .before .before .before .before .before .before .is-table .ensures) ∙ not-false _ (c .before .before .before .before .before .before .before .before .before .before .if1 .left) in
+    sample-here _ _ _ _ accepted (c .before .before .before .before .before .before .before .before .if2 .left) (omega (arith, c .before .before .before .before .before .before .before .before .before .counts-of .ensures, c .before .before .before .before .before .before .if3 .left)) (c .before .before .before .before .if4 .left) (omega (arith, c .before .before .before .before .before .parameter-at .ensures, c .before .before .if5 .left))
+    ∙ ap (λ (x : Fit). fitted x (c .before .before .before .before .before .before .before .before .before .before .before .before .before .before .args .parameter - 1) (c .before .before .before .before .before .before .before .before .before .before .before .before .before .before .args .sample - 1)) (sym (c .fit-of .ensures) ∙ e)
+
 returns-6 : tie.Need-returns-6
 unfolding fitted
-returns-6 c =
-    sym
-    (sample-here _ _ _ _ (sym (c .before .before .before .before .before .before .before .before .before .before .before .before .before .is-table .ensures) ∙ not-false _ (c .before .before .before .before .before .before .before .before .before .before .before .before .if1 .left)) (c .before .before .before .before .before .before .before .before .before .before .if2 .left) (omega (arith, c .before .before .before .before .before .before .before .before .before .before .before .counts-of .ensures, c .before .before .before .before .before .before .before .before .if3 .left)) (c .before .before .before .before .before .before .if4 .left) (omega (arith, c .before .before .before .before .before .before .before .parameter-at .ensures, c .before .before .before .before .if5 .left))
-    ∙ ap (λ (d : Fit). fitted d (c .before .before .before .before .before .before .before .before .before .before .before .before .before .before .before .before .args .parameter - 1) (c .before .before .before .before .before .before .before .before .before .before .before .before .before .before .before .before .args .sample - 1)) (sym (c .before .before .fit-of .ensures) ∙ c .enum-told .given .1))
+returns-6 c = sym (decided (c .before .before) _ (c .enum-told .given .1))
 
 returns-7 : tie.Need-returns-7
 unfolding fitted
-returns-7 c =
-    sym
-    (sample-here _ _ _ _ (sym (c .before .before .before .before .before .before .before .before .before .before .before .before .before .is-table .ensures) ∙ not-false _ (c .before .before .before .before .before .before .before .before .before .before .before .before .if1 .left)) (c .before .before .before .before .before .before .before .before .before .before .if2 .left) (omega (arith, c .before .before .before .before .before .before .before .before .before .before .before .counts-of .ensures, c .before .before .before .before .before .before .before .before .if3 .left)) (c .before .before .before .before .before .before .if4 .left) (omega (arith, c .before .before .before .before .before .before .before .parameter-at .ensures, c .before .before .before .before .if5 .left))
-    ∙ ap (λ (d : Fit). fitted d (c .before .before .before .before .before .before .before .before .before .before .before .before .before .before .before .before .args .parameter - 1) (c .before .before .before .before .before .before .before .before .before .before .before .before .before .before .before .before .args .sample - 1)) (sym (c .before .before .fit-of .ensures) ∙ c .enum-told2 .given .1))
+returns-7 c = sym (decided (c .before .before) _ (c .enum-told2 .given .1))
 
 returns-8 : tie.Need-returns-8
 unfolding fitted
-returns-8 c =
-    sym
-    (sample-here _ _ _ _ (sym (c .before .before .before .before .before .before .before .before .before .before .before .before .before .is-table .ensures) ∙ not-false _ (c .before .before .before .before .before .before .before .before .before .before .before .before .if1 .left)) (c .before .before .before .before .before .before .before .before .before .before .if2 .left) (omega (arith, c .before .before .before .before .before .before .before .before .before .before .before .counts-of .ensures, c .before .before .before .before .before .before .before .before .if3 .left)) (c .before .before .before .before .before .before .if4 .left) (omega (arith, c .before .before .before .before .before .before .before .parameter-at .ensures, c .before .before .before .before .if5 .left))
-    ∙ ap (λ (d : Fit). fitted d (c .before .before .before .before .before .before .before .before .before .before .before .before .before .before .before .before .args .parameter - 1) (c .before .before .before .before .before .before .before .before .before .before .before .before .before .before .before .before .args .sample - 1)) (sym (c .before .before .fit-of .ensures) ∙ c .enum-told3 .given .1))
+returns-8 c = sym (decided (c .before .before) _ (c .enum-told3 .given .1))
 
 pub sample-wanted-spec : {M : Type 1} → statement M
 sample-wanted-spec =
