@@ -1,0 +1,4 @@
+pub mod DigitLaws
+pub mod MarkLaws
+pub mod AnswerLaws
+pub mod FractionLaws

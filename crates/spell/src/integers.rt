@@ -1,0 +1,78 @@
+// Integers within limits, numbers that count declared things, the overlap, and octal labels.
+use crate::answers::Number;
+use crate::digits::digits_up_to;
+use crate::digits::number;
+use crate::digits::value;
+use text::refusal::Judged;
+use text::refusal::Refusal;
+ghost use mathlib.Core.Path.{_≡_};
+ghost use Prim.Native.Nat.{_≤_};
+ghost use Rattle.spell.specs.Integers.{integerOf, declaredOf, overlapJudged, labelOf};
+
+// 8, 6, 11: 1 to n digits, from least to most.
+pub fn integer(f: &[u8], n: usize, least: u64, most: u64) -> Number
+    requires { ⌜ n ≤ 10 ⌝ }
+    ensures { λ r. ⌜ r ≡ integerOf n least most (now (f .entry)) ⌝ }
+{
+    if f.len() == 0 {
+        return Number::Refused(Refusal::FieldEmpty);
+    }
+    if !digits_up_to(f, n, 10) {
+        return Number::Refused(Refusal::Misspelt);
+    }
+    let v = number(f);
+    if v < least {
+        return Number::Refused(Refusal::OutsideLimit);
+    }
+    if most < v {
+        return Number::Refused(Refusal::OutsideLimit);
+    }
+    Number::Value(v)
+}
+
+// 8, 6, 11 for 0, 13 beyond the number declared.
+pub fn declared(f: &[u8], count: u64) -> Number
+    ensures { λ r. ⌜ r ≡ declaredOf count (now (f .entry)) ⌝ }
+{
+    match integer(f, 6, 1, 999999) {
+        Number::Refused(r) => Number::Refused(r),
+        Number::Value(v) => {
+            if count < v {
+                return Number::Refused(Refusal::BeyondDeclared);
+            }
+            Number::Value(v)
+        }
+    }
+}
+
+// 8, 6, 10 unless it is 0.
+pub fn overlap(f: &[u8]) -> Judged
+    ensures { λ r. ⌜ r ≡ overlapJudged (now (f .entry)) ⌝ }
+{
+    match integer(f, 6, 0, 999999) {
+        Number::Refused(r) => Judged::Refused(r),
+        Number::Value(v) => {
+            if v == 0 {
+                return Judged::Passes;
+            }
+            Judged::Refused(Refusal::NotCarried)
+        }
+    }
+}
+
+// 8, 6, 11 above 377 octal.
+pub fn label(f: &[u8]) -> Number
+    ensures { λ r. ⌜ r ≡ labelOf (now (f .entry)) ⌝ }
+{
+    if f.len() == 0 {
+        return Number::Refused(Refusal::FieldEmpty);
+    }
+    if !digits_up_to(f, 3, 8) {
+        return Number::Refused(Refusal::Misspelt);
+    }
+    let v = value(f, f.len(), 8);
+    if 255 < v {
+        return Number::Refused(Refusal::OutsideLimit);
+    }
+    Number::Value(v)
+}

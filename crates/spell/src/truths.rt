@@ -1,0 +1,63 @@
+// Booleans: three spellings of each.
+use crate::answers::Truth;
+use lay::same_text;
+use text::refusal::Judged;
+use text::refusal::Refusal;
+ghost use mathlib.Core.Path.{_≡_};
+ghost use Rattle.spell.specs.Truths.{saysTrue, saysFalse, truthOf, truthOrEmptyJudged};
+
+fn says_true(f: &[u8]) -> bool
+    ensures { λ r. ⌜ r ≡ saysTrue (now (f .entry)) ⌝ }
+{
+    if same_text(f, b"True") {
+        return true;
+    }
+    if same_text(f, b"true") {
+        return true;
+    }
+    same_text(f, b"TRUE")
+}
+
+fn says_false(f: &[u8]) -> bool
+    ensures { λ r. ⌜ r ≡ saysFalse (now (f .entry)) ⌝ }
+{
+    if same_text(f, b"False") {
+        return true;
+    }
+    if same_text(f, b"false") {
+        return true;
+    }
+    same_text(f, b"FALSE")
+}
+
+// 8, 6.
+pub fn truth(f: &[u8]) -> Truth
+    ensures { λ r. ⌜ r ≡ truthOf (now (f .entry)) ⌝ }
+{
+    if f.len() == 0 {
+        return Truth::Refused(Refusal::FieldEmpty);
+    }
+    if says_true(f) {
+        return Truth::Says(true);
+    }
+    if says_false(f) {
+        return Truth::Says(false);
+    }
+    Truth::Refused(Refusal::Misspelt)
+}
+
+// Only 6: an empty field passes.
+pub fn truth_or_empty(f: &[u8]) -> Judged
+    ensures { λ r. ⌜ r ≡ truthOrEmptyJudged (now (f .entry)) ⌝ }
+{
+    if f.len() == 0 {
+        return Judged::Passes;
+    }
+    if says_true(f) {
+        return Judged::Passes;
+    }
+    if says_false(f) {
+        return Judged::Passes;
+    }
+    Judged::Refused(Refusal::Misspelt)
+}

@@ -1,0 +1,4 @@
+pub mod Cuts
+pub mod Trims
+pub mod Finds
+pub mod Places
