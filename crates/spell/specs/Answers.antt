@@ -27,3 +27,25 @@ saysBits (judged.Refused r) a b = bits.Refused r
 abbrev pub saysSeconds : Judged → ℕ → ℕ → Seconds
 saysSeconds judged.Passes n d = seconds.Value n d
 saysSeconds (judged.Refused r) n d = seconds.Refused r
+
+-- the tests alone
+abbrev pub numberJudged : Number → Judged
+numberJudged (number.Value v) = judged.Passes
+numberJudged (number.Refused r) = judged.Refused r
+
+abbrev pub truthJudgedOf : Truth → Judged
+truthJudgedOf (truth.Says v) = judged.Passes
+truthJudgedOf (truth.Refused r) = judged.Refused r
+
+abbrev pub bitsJudgedOf : Bits → Judged
+bitsJudgedOf (bits.Range a b) = judged.Passes
+bitsJudgedOf (bits.Refused r) = judged.Refused r
+
+abbrev pub secondsJudgedOf : Seconds → Judged
+secondsJudgedOf (seconds.Value n d) = judged.Passes
+secondsJudgedOf (seconds.Refused r) = judged.Refused r
+
+-- the number that a field says, 0 where it says none
+abbrev pub amountOf : Number → ℕ
+amountOf (number.Value v) = v
+amountOf (number.Refused r) = 0

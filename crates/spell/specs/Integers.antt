@@ -2,7 +2,7 @@
 -- 13; non-zero overlap is 10 after 6. In a component line 11 is only for 0 or a above b; all that is too high is 13."
 use Prim.Native.Nat.{ℕ}
 use mathlib.Core.List.{List, [], _∷_}
-use mathlib.Core.Bool.{not, _&&_}
+use mathlib.Core.Bool.{cond, not, _&&_}
 use lib.Dec.{leb, ltb, eqb}
 use Rattle.text.specs.Blanks.{isEmpty}
 use Rattle.text.specs.Refusals.{when, first}
@@ -11,6 +11,7 @@ use Rattle.text.specs.declared.refusal.Refusal.the-variants.{FieldEmpty, Misspe
 use Rattle.spell.specs.Digits.{digitsUpTo, number}
 use Rattle.spell.specs.Answers.{saysNumber}
 use Rattle.spell.specs.declared.answers.Number.{Number}
+use Rattle.spell.specs.declared.answers.Number.the-variants.{Value}
 
 -- 1 to n digits, the number from least to most
 unfoldable pub integerJudged : ℕ → ℕ → ℕ → List ℕ → Judged
@@ -37,6 +38,10 @@ declaredOf count f = saysNumber (declaredJudged count f) (number 10 f)
 
 unfoldable pub overlapJudged : List ℕ → Judged
 overlapJudged f = first (integerJudged 6 0 mostOfSix f ∷ when (not (eqb (number 10 f) 0)) NotCarried ∷ [])
+
+-- "Leading and trailing may be empty; empty is stored as 0"
+unfoldable pub marginOf : ℕ → List ℕ → Number
+marginOf most f = cond (isEmpty f) (Value 0) (integerOf 6 0 most f)
 
 -- "label 377 octal"
 abbrev pub highestLabel : ℕ

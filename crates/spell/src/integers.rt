@@ -7,7 +7,7 @@ use text::refusal::Judged;
 use text::refusal::Refusal;
 ghost use mathlib.Core.Path.{_≡_};
 ghost use Prim.Native.Nat.{_≤_};
-ghost use Rattle.spell.specs.Integers.{integerOf, declaredOf, overlapJudged, labelOf};
+ghost use Rattle.spell.specs.Integers.{integerOf, declaredOf, overlapJudged, marginOf, labelOf};
 
 // 8, 6, 11: 1 to n digits, from least to most.
 pub fn integer(f: &[u8], n: usize, least: u64, most: u64) -> Number
@@ -58,6 +58,16 @@ pub fn overlap(f: &[u8]) -> Judged
             Judged::Refused(Refusal::NotCarried)
         }
     }
+}
+
+// 6, 11: an empty field says 0.
+pub fn margin(f: &[u8], most: u64) -> Number
+    ensures { λ r. ⌜ r ≡ marginOf most (now (f .entry)) ⌝ }
+{
+    if f.len() == 0 {
+        return Number::Value(0);
+    }
+    integer(f, 6, 0, most)
 }
 
 // 8, 6, 11 above 377 octal.

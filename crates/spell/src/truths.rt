@@ -6,7 +6,7 @@ use text::refusal::Refusal;
 ghost use mathlib.Core.Path.{_≡_};
 ghost use Rattle.spell.specs.Truths.{saysTrue, saysFalse, truthOf, truthOrEmptyJudged};
 
-fn says_true(f: &[u8]) -> bool
+pub fn says_true(f: &[u8]) -> bool
     ensures { λ r. ⌜ r ≡ saysTrue (now (f .entry)) ⌝ }
 {
     if same_text(f, b"True") {

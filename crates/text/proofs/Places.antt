@@ -123,6 +123,10 @@ pub bytes-at : (k : ℕ) (l : List ℕ) → part l (fieldAt k l .start) (fieldAt
 unfolding fieldAt fieldOf
 bytes-at k l = bytes-from l (pieceFrom k l) ∙ ap trim (ap (upTo comma) (from-past k l) ∙ sym (piece-past k l))
 
+-- in the form that the code gives them
+pub bytes-found : (k : ℕ) (l : List ℕ) (f : Field) → f ≡ fieldAt k l → (b : List ℕ) → b ≡ part l (f .start) (f .end - f .start) → b ≡ fieldOf k l
+bytes-found k l f e b h = h ∙ (ap (λ (g : Field). part l (g .start) (g .end - g .start)) e ∙ bytes-at k l)
+
 -- the loop of field_at
 pub from-more : (l : List ℕ) (j from : ℕ) (f : Field) → from ≡ pieceFrom j l → f ≡ fieldFrom l from → f .next ≡ pieceFrom (j + 1) l
 unfolding pieceFrom

@@ -1,0 +1,4 @@
+pub mod Book
+pub mod Tests
+pub mod Ruling
+pub mod WallSheet
