@@ -1,3 +1,4 @@
 pub mod Chains
 pub mod Judging
 pub mod Pairs
+pub mod Modesty

@@ -1,5 +1,5 @@
 -- What a line says, once its tests pass.
-use Prim.Native.Nat.{ℕ}
+use Prim.Native.Nat.{ℕ, _≤_}
 use mathlib.Core.List.{List}
 use mathlib.Core.Bool.{Bool}
 use Rattle.text.specs.Fields.{fieldOf}
@@ -65,6 +65,13 @@ partIn l =
       low = lowOf (componentBitsOf mostOfSix (fieldOf 3 l));
       high = highOf (componentBitsOf mostOfSix (fieldOf 3 l));
     }
+
+-- not part of the meaning: six digits are never more
+pub record Modest (p : Part) : Type 0 where
+  pub subframe : p .subframe ≤ 999999
+  pub word : p .word ≤ 999999
+  pub rising : p .low ≤ p .high
+  pub high : p .high ≤ 999999
 
 -- the time line, in millionths
 abbrev pub timeIn : List ℕ → ℕ

@@ -11,7 +11,7 @@ use spell::truths::says_true;
 use text::field::field_of;
 ghost use mathlib.Core.Path.{_≡_};
 ghost use Rattle.lineforms.specs.LineFields.{subframeIn};
-ghost use Rattle.lineforms.specs.Said.{subframesIn, sequentialIn, numeratorOf, denominatorOf, pairIn, identifierIn, lowOf, highOf, partIn, timeIn, signedIn, valueIn};
+ghost use Rattle.lineforms.specs.Said.{subframesIn, sequentialIn, numeratorOf, denominatorOf, pairIn, identifierIn, lowOf, highOf, partIn, Modest, timeIn, signedIn, valueIn};
 
 // What a record pair declares.
 pub struct Pair {
@@ -115,7 +115,7 @@ pub fn subframe_in(line: &[u8]) -> u64
 }
 
 pub fn part_in(line: &[u8]) -> Part
-    ensures { λ r. ⌜ r ≡ partIn (now (line .entry)) ⌝ }
+    ensures { λ r. ⌜ (r ≡ partIn (now (line .entry))) × Modest r ⌝ }
 {
     let x = component_bits(field_of(line, 3), 999999);
     Part {

@@ -1,3 +1,4 @@
+use Rattle.lineforms.proofs.Modesty.{part-modest}
 use borrow.Author.Needs.{needs}
 use Rattle.lineforms.proofs.said.part_in.Statement.{statement}
 use Rattle.lineforms.proofs.said.part_in.Tie as tie
@@ -36,7 +37,7 @@ high-of-requires : tie.Need-high-of-requires
 high-of-requires c κs = search needs
 
 returns : tie.Need-returns
-returns c = cc
+returns c = part-modest _ _ (simp (c .high-of .ensures, c .before .low-of .ensures, c .before .before .amount .ensures, c .before .before .before .integer .ensures, c .before .before .before .before .field-of2 .ensures, c .before .before .before .before .before .subframe-in .ensures, c .before .before .before .before .before .before .component-bits .ensures, c .before .before .before .before .before .before .before .field-of .ensures))
 
 pub part-in-spec : {M : Type 1} → statement M
 part-in-spec =

@@ -1,0 +1,112 @@
+-- Not part of the meaning: what the code counts of what a sheet's lines gather to.
+use Prim.Native.Nat.{ℕ, _+_, _≤_}
+use mathlib.Core.Bool.{false, cond}
+use mathlib.Core.List.{List, [], _∷_}
+use lib.ListN.{length}
+use Rattle.text.specs.Fields.{fieldOf}
+use Rattle.lineforms.specs.Said.{subframesIn, sequentialIn, identifierIn, signedIn, valueIn}
+use Rattle.lineforms.specs.declared.due.Form.{Form}
+use Rattle.lineforms.specs.declared.due.Form.the-variants.{Stray, Superframe, HeaderWord, HeaderLine, RecordWord, RecordLine, NoneWord, ParameterWord, NameLine, OpeningComponent, ComponentLine, TimeLine, SamplesEnd, SignedLine, RangeLine, SourceLine, LabelLine, SourceEnd, ParameterEnd}
+use Rattle.model.specs.Content.{Parameter}
+use Rattle.gather.specs.Book.{Book, samplesSoFar, componentsSoFar}
+use Rattle.judge.specs.declared.tally.Tally.{Tally}
+
+-- the bytes of text of parameters
+unfoldable pub textOf : List Parameter → ℕ
+textOf [] = 0
+textOf (p ∷ ps) = length (p .name) + length (p .mnemonic) + length (p .identification) + textOf ps
+
+abbrev pub tallyOf : Book → Tally
+tallyOf K =
+    record {
+      declared = K .declared;
+      sequential = K .sequential;
+      pairs = length (K .pairs);
+      parameters = length (K .parameters);
+      samples = samplesSoFar K;
+      own = length (K .opened .samples);
+      components = componentsSoFar K;
+      parts = length (K .parts);
+      text = textOf (K .parameters);
+      name = length (K .opened .name);
+      mnemonic = length (K .opened .mnemonic);
+      identification = length (K .opened .identification);
+      identifier = K .opened .identifier;
+      signed = K .opened .signed;
+      value = K .opened .value;
+    }
+
+abbrev pub namedTally : List ℕ → Tally → Tally
+namedTally l x =
+    record {
+      declared = x .declared;
+      sequential = x .sequential;
+      pairs = x .pairs;
+      parameters = x .parameters;
+      samples = x .samples;
+      own = 0;
+      components = x .components;
+      parts = x .parts;
+      text = x .text;
+      name = length (fieldOf 0 l);
+      mnemonic = length (fieldOf 1 l);
+      identification = length (fieldOf 2 l);
+      identifier = identifierIn l;
+      signed = false;
+      value = 0;
+    }
+
+abbrev pub closedTally : Tally → Tally
+closedTally x =
+    record {
+      declared = x .declared;
+      sequential = x .sequential;
+      pairs = x .pairs;
+      parameters = x .parameters + 1;
+      samples = x .samples;
+      own = 0;
+      components = x .components;
+      parts = x .parts;
+      text = x .text + x .name + x .mnemonic + x .identification;
+      name = 0;
+      mnemonic = 0;
+      identification = 0;
+      identifier = false;
+      signed = false;
+      value = 0;
+    }
+
+-- the counts after a line
+abbrev pub countedOf : Form → List ℕ → Tally → Tally
+countedOf Stray l x = x
+countedOf Superframe l x = x
+countedOf HeaderWord l x = x
+countedOf HeaderLine l x = record { declared = subframesIn l; sequential = sequentialIn l; pairs = x .pairs; parameters = x .parameters; samples = x .samples; own = x .own; components = x .components; parts = x .parts; text = x .text; name = x .name; mnemonic = x .mnemonic; identification = x .identification; identifier = x .identifier; signed = x .signed; value = x .value }
+countedOf RecordWord l x = x
+countedOf RecordLine l x = record { declared = x .declared; sequential = x .sequential; pairs = x .pairs + 1; parameters = x .parameters; samples = x .samples; own = x .own; components = x .components; parts = x .parts; text = x .text; name = x .name; mnemonic = x .mnemonic; identification = x .identification; identifier = x .identifier; signed = x .signed; value = x .value }
+countedOf NoneWord l x = x
+countedOf ParameterWord l x = x
+countedOf NameLine l x = namedTally l x
+countedOf OpeningComponent l x = record { declared = x .declared; sequential = x .sequential; pairs = x .pairs; parameters = x .parameters; samples = x .samples; own = x .own; components = x .components + 1; parts = x .parts + 1; text = x .text; name = x .name; mnemonic = x .mnemonic; identification = x .identification; identifier = x .identifier; signed = x .signed; value = x .value }
+countedOf ComponentLine l x = record { declared = x .declared; sequential = x .sequential; pairs = x .pairs; parameters = x .parameters; samples = x .samples; own = x .own; components = x .components + 1; parts = x .parts + 1; text = x .text; name = x .name; mnemonic = x .mnemonic; identification = x .identification; identifier = x .identifier; signed = x .signed; value = x .value }
+countedOf TimeLine l x = record { declared = x .declared; sequential = x .sequential; pairs = x .pairs; parameters = x .parameters; samples = x .samples + 1; own = x .own + 1; components = x .components; parts = 0; text = x .text; name = x .name; mnemonic = x .mnemonic; identification = x .identification; identifier = x .identifier; signed = x .signed; value = x .value }
+countedOf SamplesEnd l x = x
+countedOf SignedLine l x = record { declared = x .declared; sequential = x .sequential; pairs = x .pairs; parameters = x .parameters; samples = x .samples; own = x .own; components = x .components; parts = x .parts; text = x .text; name = x .name; mnemonic = x .mnemonic; identification = x .identification; identifier = x .identifier; signed = signedIn l; value = x .value }
+countedOf RangeLine l x = record { declared = x .declared; sequential = x .sequential; pairs = x .pairs; parameters = x .parameters; samples = x .samples; own = x .own; components = x .components; parts = x .parts; text = x .text; name = x .name; mnemonic = x .mnemonic; identification = x .identification; identifier = x .identifier; signed = x .signed; value = cond (x .identifier) (valueIn l) 0 }
+countedOf SourceLine l x = x
+countedOf LabelLine l x = x
+countedOf SourceEnd l x = x
+countedOf ParameterEnd l x = closedTally x
+
+-- no count is above m
+pub record Small (x : Tally) (m : ℕ) : Type 0 where
+  pub pairs : x .pairs ≤ m
+  pub parameters : x .parameters ≤ m
+  pub samples : x .samples ≤ m
+  pub own : x .own ≤ m
+  pub components : x .components ≤ m
+  pub parts : x .parts ≤ m
+  pub text : x .text ≤ m
+  pub name : x .name ≤ m
+  pub mnemonic : x .mnemonic ≤ m
+  pub identification : x .identification ≤ m

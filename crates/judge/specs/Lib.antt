@@ -1,0 +1,5 @@
+pub mod Counts
+pub mod Names
+pub mod Sixteen
+pub mod LineTests
+pub mod Sampling

@@ -1,0 +1,135 @@
+// 14: the open sample's components side by side, and what is kept of the open parameter's first sample.
+use lineforms::said::Part;
+use sample::clash::names_twice;
+use sample::component::Component;
+use sample::component::Components;
+use text::refusal::Judged;
+use text::refusal::Refusal;
+ghost use mathlib.Core.Path.{_≡_};
+ghost use mathlib.Core.Bool.{true, cond, _&&_, _||_};
+ghost use mathlib.Core.List.{[], _∷_, _++_};
+ghost use Prim.Native.Nat.{_+_, _-_, _<_, _≤_};
+ghost use lib.Dec.{eqb, ltb};
+ghost use Rattle.sample.specs.Clash.{twice};
+ghost use Rattle.sample.specs.Promise.{listed};
+ghost use Rattle.text.specs.Refusals.{when};
+ghost use Rattle.text.specs.declared.refusal.Refusal.the-variants.{BadSample};
+ghost use Rattle.lineforms.specs.Said.{Modest};
+ghost use Rattle.judge.specs.Sampling.{spotOf, bitsIn, widthTestIn, Widened, Timed, Opened};
+
+// The open sample: its width, the subframe of its first component, whether all lie there. The first sample: the same.
+pub struct Sampling {
+    pub spots: Components,
+    pub width: u64,
+    pub home: u64,
+    pub alone: bool,
+    pub first: u64,
+    pub lies: u64,
+    pub within: bool,
+}
+
+// Subframe and word as one number.
+fn spot_of(p: Part) -> Component
+    requires { ⌜ Modest p ⌝ }
+    ensures { λ r. ⌜ r ≡ spotOf p ⌝ }
+{
+    Component {
+        word: (p.subframe * 1025 + p.word) as usize,
+        low: p.low as u32,
+        high: p.high as u32,
+    }
+}
+
+// A bit twice, or a width above 32, with one component more.
+pub fn joined_judged(g: Sampling, p: Part) -> Judged
+    requires { ⌜ (g .spots .count < 8) × (g .width ≤ 32) × Modest p ⌝ }
+    ensures { λ r. ⌜ r ≡ when (twice (listed (g .spots) ++ (spotOf p ∷ [])) || ltb 32 (g .width + bitsIn p)) BadSample ⌝ }
+{
+    let spots = g.spots;
+    if names_twice(spots.with(spot_of(p))) {
+        return Judged::Refused(Refusal::BadSample);
+    }
+    if 32 < g.width + (p.high + 1 - p.low) {
+        return Judged::Refused(Refusal::BadSample);
+    }
+    Judged::Passes
+}
+
+// The width against the first sample's, where this is not the first.
+pub fn width_judged(g: Sampling, own: usize) -> Judged
+    ensures { λ r. ⌜ r ≡ widthTestIn own (g .width) (g .first) ⌝ }
+{
+    if own == 0 {
+        return Judged::Passes;
+    }
+    if g.width == g.first {
+        return Judged::Passes;
+    }
+    Judged::Refused(Refusal::BadSample)
+}
+
+// Nothing of any sample.
+pub fn no_sample() -> Sampling
+    ensures { λ r. ⌜ Opened r ⌝ }
+{
+    Sampling {
+        spots: Components::none(),
+        width: 0,
+        home: 0,
+        alone: true,
+        first: 0,
+        lies: 0,
+        within: true,
+    }
+}
+
+fn home_of(n: usize, s: u64, home: u64) -> u64
+    ensures { λ r. ⌜ r ≡ cond (eqb n 0) s home ⌝ }
+{
+    if n == 0 { s } else { home }
+}
+
+fn alone_of(n: usize, s: u64, home: u64, alone: bool) -> bool
+    ensures { λ r. ⌜ r ≡ cond (eqb n 0) true (alone && eqb s home) ⌝ }
+{
+    if n == 0 {
+        return true;
+    }
+    alone && s == home
+}
+
+// One component more, n before it.
+pub fn with_part(g: Sampling, p: Part, n: usize) -> Sampling
+    requires { ⌜ (g .spots .count < 8) × (g .width ≤ 32) × Modest p ⌝ }
+    ensures { λ r. ⌜ Widened g p n r ⌝ }
+{
+    let spots = g.spots;
+    Sampling {
+        spots: spots.with(spot_of(p)),
+        width: g.width + (p.high + 1 - p.low),
+        home: home_of(n, p.subframe, g.home),
+        alone: alone_of(n, p.subframe, g.home, g.alone),
+        ..g
+    }
+}
+
+// The open sample is closed, own samples before it.
+pub fn timed(g: Sampling, own: usize) -> Sampling
+    ensures { λ r. ⌜ Timed g own r ⌝ }
+{
+    let none = no_sample();
+    if own == 0 {
+        return Sampling {
+            first: g.width,
+            lies: g.home,
+            within: g.alone,
+            ..none
+        };
+    }
+    Sampling {
+        first: g.first,
+        lies: g.lies,
+        within: g.within,
+        ..none
+    }
+}

@@ -1,0 +1,154 @@
+// How much a sheet's lines have gathered to.
+use lineforms::due::Form;
+use lineforms::said::identifier_in;
+use lineforms::said::sequential_in;
+use lineforms::said::signed_in;
+use lineforms::said::subframes_in;
+use lineforms::said::value_in;
+use text::field::field_of;
+ghost use mathlib.Core.Path.{_≡_};
+ghost use mathlib.Core.Bool.{cond};
+ghost use Rattle.lineforms.specs.Said.{valueIn};
+ghost use Rattle.gather.specs.Book.{emptyBook};
+ghost use Rattle.judge.specs.Counts.{tallyOf, countedOf, namedTally, closedTally, Small};
+
+// samples and components in all, with the open parameter's and the open sample's; own are the open parameter's samples,
+// parts the open sample's components, text the whole parameters' bytes of text; then the open parameter.
+pub struct Tally {
+    pub declared: usize,
+    pub sequential: bool,
+    pub pairs: usize,
+    pub parameters: usize,
+    pub samples: usize,
+    pub own: usize,
+    pub components: usize,
+    pub parts: usize,
+    pub text: usize,
+    pub name: usize,
+    pub mnemonic: usize,
+    pub identification: usize,
+    pub identifier: bool,
+    pub signed: bool,
+    pub value: u64,
+}
+
+pub fn nothing() -> Tally
+    ensures { λ r. ⌜ r ≡ tallyOf emptyBook ⌝ }
+{
+    Tally {
+        declared: 0,
+        sequential: false,
+        pairs: 0,
+        parameters: 0,
+        samples: 0,
+        own: 0,
+        components: 0,
+        parts: 0,
+        text: 0,
+        name: 0,
+        mnemonic: 0,
+        identification: 0,
+        identifier: false,
+        signed: false,
+        value: 0,
+    }
+}
+
+// The 7-field line opens a parameter.
+fn named(x: Tally, line: &[u8]) -> Tally
+    ensures { λ r. ⌜ r ≡ namedTally (now (line .entry)) x ⌝ }
+{
+    Tally {
+        own: 0,
+        name: field_of(line, 0).len(),
+        mnemonic: field_of(line, 1).len(),
+        identification: field_of(line, 2).len(),
+        identifier: identifier_in(line),
+        signed: false,
+        value: 0,
+        ..x
+    }
+}
+
+// The last blank line closes it.
+fn closed(x: Tally) -> Tally
+    requires { ⌜ Small x 65536 ⌝ }
+    ensures { λ r. ⌜ r ≡ closedTally x ⌝ }
+{
+    Tally {
+        parameters: x.parameters + 1,
+        own: 0,
+        text: x.text + x.name + x.mnemonic + x.identification,
+        name: 0,
+        mnemonic: 0,
+        identification: 0,
+        identifier: false,
+        signed: false,
+        value: 0,
+        ..x
+    }
+}
+
+// The value of an identifier, else 0.
+fn range_value(identifier: bool, line: &[u8]) -> u64
+    ensures { λ r. ⌜ r ≡ cond identifier (valueIn (now (line .entry))) 0 ⌝ }
+{
+    if identifier {
+        return value_in(line);
+    }
+    0
+}
+
+// The counts after a line that passed.
+pub fn counted(form: Form, line: &[u8], x: Tally) -> Tally
+    requires { ⌜ Small x 65536 ⌝ }
+    ensures { λ r. ⌜ r ≡ countedOf form (now (line .entry)) x ⌝ }
+{
+    match form {
+        Form::Stray => x,
+        Form::Superframe => x,
+        Form::HeaderWord => x,
+        Form::HeaderLine => Tally {
+            declared: subframes_in(line) as usize,
+            sequential: sequential_in(line),
+            ..x
+        },
+        Form::RecordWord => x,
+        Form::RecordLine => Tally {
+            pairs: x.pairs + 1,
+            ..x
+        },
+        Form::NoneWord => x,
+        Form::ParameterWord => x,
+        Form::NameLine => named(x, line),
+        Form::OpeningComponent => Tally {
+            components: x.components + 1,
+            parts: x.parts + 1,
+            ..x
+        },
+        Form::ComponentLine => Tally {
+            components: x.components + 1,
+            parts: x.parts + 1,
+            ..x
+        },
+        Form::TimeLine => Tally {
+            samples: x.samples + 1,
+            own: x.own + 1,
+            parts: 0,
+            ..x
+        },
+        Form::SamplesEnd => x,
+        Form::SignedLine => Tally {
+            signed: signed_in(line),
+            ..x
+        },
+        Form::RangeLine => Tally {
+            value: range_value(x.identifier, line),
+            ..x
+        },
+        Form::SourceLine => x,
+        Form::LabelLine => x,
+        Form::SourceEnd => x,
+        Form::ParameterEnd => closed(x),
+    }
+}

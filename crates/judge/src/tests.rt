@@ -1,0 +1,89 @@
+// The tests of a line, from 5 to its fields, by what it turned out to be.
+use crate::tally::Tally;
+use lineforms::due::Form;
+use lineforms::fields::component_fields;
+use lineforms::fields::header_fields;
+use lineforms::fields::label_fields;
+use lineforms::fields::name_fields;
+use lineforms::fields::range_fields;
+use lineforms::fields::record_fields;
+use lineforms::fields::signed_fields;
+use lineforms::fields::source_fields;
+use lineforms::fields::time_fields;
+use text::refusal::Judged;
+use text::refusal::Refusal;
+use text::refusal::or_else;
+ghost use mathlib.Core.Path.{_≡_};
+ghost use Rattle.judge.specs.LineTests.{roomForParameterIn, roomForSampleIn, roomForComponentIn, formTests};
+
+// 12: one parameter more.
+fn room_for_parameter(x: Tally) -> Judged
+    ensures { λ r. ⌜ r ≡ roomForParameterIn x ⌝ }
+{
+    if 512 <= x.parameters {
+        return Judged::Refused(Refusal::TooMany);
+    }
+    Judged::Passes
+}
+
+// 12: one sample more, which its first component opens.
+fn room_for_sample(x: Tally) -> Judged
+    ensures { λ r. ⌜ r ≡ roomForSampleIn x ⌝ }
+{
+    if 64 <= x.own {
+        return Judged::Refused(Refusal::TooMany);
+    }
+    if 4096 <= x.samples {
+        return Judged::Refused(Refusal::TooMany);
+    }
+    if 4096 <= x.components {
+        return Judged::Refused(Refusal::TooMany);
+    }
+    Judged::Passes
+}
+
+// 12: one component more.
+fn room_for_component(x: Tally) -> Judged
+    ensures { λ r. ⌜ r ≡ roomForComponentIn x ⌝ }
+{
+    if 8 <= x.parts {
+        return Judged::Refused(Refusal::TooMany);
+    }
+    if 4096 <= x.components {
+        return Judged::Refused(Refusal::TooMany);
+    }
+    Judged::Passes
+}
+
+// 5 and 10, 12, then the fields left to right.
+pub fn form_judged(form: Form, line: &[u8], x: Tally, words: &[u64], bits: &[u64]) -> Judged
+    ensures { λ r. ⌜ r ≡ formTests form x (now (words .entry)) (now (bits .entry)) (now (line .entry)) ⌝ }
+{
+    match form {
+        Form::Stray => Judged::Refused(Refusal::NotDue),
+        Form::Superframe => Judged::Refused(Refusal::NotCarried),
+        Form::HeaderWord => Judged::Passes,
+        Form::HeaderLine => header_fields(line),
+        Form::RecordWord => Judged::Passes,
+        Form::RecordLine => record_fields(line),
+        Form::NoneWord => Judged::Passes,
+        Form::ParameterWord => room_for_parameter(x),
+        Form::NameLine => name_fields(line),
+        Form::OpeningComponent => or_else(
+            room_for_sample(x),
+            component_fields(line, x.declared as u64, words, bits),
+        ),
+        Form::ComponentLine => or_else(
+            room_for_component(x),
+            component_fields(line, x.declared as u64, words, bits),
+        ),
+        Form::TimeLine => time_fields(line),
+        Form::SamplesEnd => Judged::Passes,
+        Form::SignedLine => signed_fields(line),
+        Form::RangeLine => range_fields(line, x.identifier),
+        Form::SourceLine => source_fields(line),
+        Form::LabelLine => label_fields(line),
+        Form::SourceEnd => Judged::Passes,
+        Form::ParameterEnd => Judged::Passes,
+    }
+}
