@@ -1,1 +1,14 @@
 pub mod WallJudged
+pub mod Rows
+pub mod FieldBytes
+pub mod Amounts
+pub mod Spreads
+pub mod Spots
+pub mod Counts
+pub mod Sound
+pub mod Tellings
+pub mod Headings
+pub mod Samplings
+pub mod Endings
+pub mod Steps
+pub mod AcceptedLawful
