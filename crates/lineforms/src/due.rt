@@ -3,6 +3,7 @@ use text::field::field_count;
 use text::keyword::Keyword;
 use text::keyword::keyword_of;
 ghost use mathlib.Core.Path.{_≡_};
+ghost use Rattle.lineforms.specs.declared.due.Form.the-variants.{Stray, HeaderWord, RecordWord, ParameterWord};
 ghost use Rattle.lineforms.specs.Forms.{wordForm, countForm, eitherForm, openingForm, afterSampleForm, formOf, dueAfter};
 
 pub enum Due {
@@ -80,6 +81,45 @@ fn either_form(line: &[u8], n: usize, form: Form, m: usize, other: Form) -> Form
     count_form(line, m, other)
 }
 
+// The first line.
+fn header_form(line: &[u8]) -> Form
+    ensures { λ r. ⌜ r ≡ wordForm (now (line .entry)) HeaderWord Stray Stray Stray ⌝ }
+{
+    word_form(
+        line,
+        Form::HeaderWord,
+        Form::Stray,
+        Form::Stray,
+        Form::Stray,
+    )
+}
+
+// The first record pair.
+fn record_form(line: &[u8]) -> Form
+    ensures { λ r. ⌜ r ≡ wordForm (now (line .entry)) Stray RecordWord Stray Stray ⌝ }
+{
+    word_form(
+        line,
+        Form::Stray,
+        Form::RecordWord,
+        Form::Stray,
+        Form::Stray,
+    )
+}
+
+// One more parameter.
+fn parameter_form(line: &[u8]) -> Form
+    ensures { λ r. ⌜ r ≡ wordForm (now (line .entry)) Stray Stray Stray ParameterWord ⌝ }
+{
+    word_form(
+        line,
+        Form::Stray,
+        Form::Stray,
+        Form::Stray,
+        Form::ParameterWord,
+    )
+}
+
 // After so many record pairs, of so many subframes.
 fn opening_form(line: &[u8], pairs: usize, subframes: usize) -> Form
     ensures { λ r. ⌜ r ≡ openingForm (now (line .entry)) pairs subframes ⌝ }
@@ -125,21 +165,9 @@ pub fn form_of(due: Due, pairs: usize, subframes: usize, line: &[u8]) -> Form
     ensures { λ r. ⌜ r ≡ formOf due pairs subframes (now (line .entry)) ⌝ }
 {
     match due {
-        Due::HeaderWord => word_form(
-            line,
-            Form::HeaderWord,
-            Form::Stray,
-            Form::Stray,
-            Form::Stray,
-        ),
+        Due::HeaderWord => header_form(line),
         Due::HeaderLine => count_form(line, 14, Form::HeaderLine),
-        Due::RecordWord => word_form(
-            line,
-            Form::Stray,
-            Form::RecordWord,
-            Form::Stray,
-            Form::Stray,
-        ),
+        Due::RecordWord => record_form(line),
         Due::RecordLine => count_form(line, 5, Form::RecordLine),
         Due::Opening => opening_form(line, pairs, subframes),
         Due::NameLine => count_form(line, 7, Form::NameLine),
@@ -152,15 +180,7 @@ pub fn form_of(due: Due, pairs: usize, subframes: usize, line: &[u8]) -> Form
         Due::AfterSource => either_form(line, 4, Form::LabelLine, 0, Form::SourceEnd),
         Due::SourceBlank => count_form(line, 0, Form::SourceEnd),
         Due::AfterSourceBlank => either_form(line, 3, Form::SourceLine, 0, Form::ParameterEnd),
-        Due::NextParameter => {
-            word_form(
-                line,
-                Form::Stray,
-                Form::Stray,
-                Form::Stray,
-                Form::ParameterWord,
-            )
-        }
+        Due::NextParameter => parameter_form(line),
         Due::Nothing => Form::Stray,
     }
 }

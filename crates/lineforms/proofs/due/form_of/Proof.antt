@@ -8,13 +8,15 @@ use Rattle.lineforms.proofs.due.after_sample_form.Reads as after-sample
 use Rattle.lineforms.proofs.due.count_form.Reads as count-form-reads
 use Rattle.lineforms.proofs.due.either_form.Reads as either-form-reads
 use Rattle.lineforms.proofs.due.opening_form.Reads as opening-form-reads
-use Rattle.lineforms.proofs.due.word_form.Reads as word-form-reads
+use Rattle.lineforms.proofs.due.parameter_form.Reads as parameter-form-reads
+use Rattle.lineforms.proofs.due.header_form.Reads as header-form-reads
+use Rattle.lineforms.proofs.due.record_form.Reads as record-form-reads
 
 enum-told : tie.Need-enum-told
 enum-told c = search needs
 
-word-form-requires : tie.Need-word-form-requires
-word-form-requires c κs = search needs
+header-form-requires : tie.Need-header-form-requires
+header-form-requires c κs = search needs
 
 enum-told-2 : tie.Need-enum-told-2
 enum-told-2 c = search needs
@@ -25,8 +27,8 @@ count-form-requires c κs = search needs
 enum-told-3 : tie.Need-enum-told-3
 enum-told-3 c = search needs
 
-word-form-requires-2 : tie.Need-word-form-requires-2
-word-form-requires-2 c κs = search needs
+record-form-requires : tie.Need-record-form-requires
+record-form-requires c κs = search needs
 
 enum-told-4 : tie.Need-enum-told-4
 enum-told-4 c = search needs
@@ -103,15 +105,15 @@ either-form-requires-3 c κs = search needs
 enum-told-16 : tie.Need-enum-told-16
 enum-told-16 c = search needs
 
-word-form-requires-3 : tie.Need-word-form-requires-3
-word-form-requires-3 c κs = search needs
+parameter-form-requires : tie.Need-parameter-form-requires
+parameter-form-requires c κs = search needs
 
 enum-told-17 : tie.Need-enum-told-17
 enum-told-17 c = search needs
 
 returns : tie.Need-returns
 unfolding formOf
-returns c = simp (c .before .enum-told .given .1, c .word-form .ensures)
+returns c = simp (c .before .enum-told .given .1, c .header-form .ensures)
 
 returns-2 : tie.Need-returns-2
 unfolding formOf
@@ -119,7 +121,7 @@ returns-2 c = simp (c .before .enum-told2 .given .1, c .count-form .ensures)
 
 returns-3 : tie.Need-returns-3
 unfolding formOf
-returns-3 c = simp (c .before .enum-told3 .given .1, c .word-form2 .ensures)
+returns-3 c = simp (c .before .enum-told3 .given .1, c .record-form .ensures)
 
 returns-4 : tie.Need-returns-4
 unfolding formOf
@@ -171,7 +173,7 @@ returns-15 c = simp (c .before .enum-told15 .given .1, c .either-form3 .ensures)
 
 returns-16 : tie.Need-returns-16
 unfolding formOf
-returns-16 c = simp (c .before .enum-told16 .given .1, c .word-form3 .ensures)
+returns-16 c = simp (c .before .enum-told16 .given .1, c .parameter-form .ensures)
 
 returns-17 : tie.Need-returns-17
 unfolding formOf
@@ -182,11 +184,11 @@ form-of-spec =
     tie.close
     (tie.spec
     enum-told
-    word-form-requires
+    header-form-requires
     enum-told-2
     count-form-requires
     enum-told-3
-    word-form-requires-2
+    record-form-requires
     enum-told-4
     count-form-requires-2
     enum-told-5
@@ -212,7 +214,7 @@ form-of-spec =
     enum-told-15
     either-form-requires-3
     enum-told-16
-    word-form-requires-3
+    parameter-form-requires
     enum-told-17
     returns
     returns-2
