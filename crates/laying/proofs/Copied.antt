@@ -1,0 +1,42 @@
+-- Record pairs laid down once or for all subframes are the subframes' part. Assumes nothing.
+use mathlib.Core.Path.{_≡_, refl, sym, ap, ap₂, _∙_}
+use mathlib.Core.Bool.{Bool, true, false, cond}
+use mathlib.Core.List.{List, [], _∷_, _++_}
+use Prim.Native.Nat.{ℕ, zero, suc, _+_, _<_}
+use native.Mathlib.Omega.{arith}
+use lib.Dec.{eqb}
+use lib.ListN.{length, getD}
+use borrow.Author.Tests.{eqb-true}
+use Rattle.lay.specs.Below.{tab, flat}
+use Rattle.lay.specs.Fields.{fieldBytes}
+use Rattle.model.specs.Content.{Subframe, noSubframe}
+use Rattle.model.specs.Write.{subframeFields}
+use Rattle.gather.specs.Book.{spread}
+use Rattle.laying.specs.Parts.{subframePart, copiesPart, copies}
+use Rattle.laying.proofs.Fronts.{nil-end}
+use Rattle.laying.proofs.Grown.{subframe-more}
+
+-- one pair for n subframes
+repeated : (n : ℕ) (f : Subframe) → subframePart (tab n (λ i. f)) ≡ flat n (λ i. fieldBytes (subframeFields f))
+repeated zero f = unfold subframePart in refl
+repeated (suc n) f = subframe-more (tab n (λ i. f)) f ∙ ap (λ (l : List ℕ). l ++ fieldBytes (subframeFields f)) (repeated n f)
+
+-- each once
+once : (fs : List Subframe) → subframePart fs ≡ copiesPart 1 fs
+unfolding subframePart copiesPart
+once [] = refl
+once (f ∷ fs) = ap (λ (l : List ℕ). fieldBytes (subframeFields f) ++ l) (once fs)
+
+one-pair : (n : ℕ) (fs : List Subframe) → length fs ≡ 1 → subframePart (tab n (λ i. getD fs 0 noSubframe)) ≡ copiesPart n fs
+unfolding copiesPart
+one-pair n [] h = absurd (omega arith)
+one-pair n (f ∷ []) h = repeated n f ∙ sym (nil-end (flat n (λ i. fieldBytes (subframeFields f))))
+one-pair n (f ∷ g ∷ fs) h = absurd (omega arith)
+
+pub spread-copied : (declared : ℕ) (fs : List Subframe) → subframePart (spread declared fs) ≡ copiesPart (copies (length fs) declared) fs
+unfolding spread
+spread-copied declared fs = go (eqb (length fs) 1) refl
+  where
+    go : (t : Bool) → eqb (length fs) 1 ≡ t → subframePart (cond t (tab declared (λ i. getD fs 0 noSubframe)) fs) ≡ copiesPart (cond t declared 1) fs
+    go true e = one-pair declared fs (eqb-true (length fs) 1 e)
+    go false e = once fs

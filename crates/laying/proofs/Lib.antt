@@ -1,0 +1,4 @@
+pub mod Fronts
+pub mod Written
+pub mod Grown
+pub mod Copied
