@@ -2,7 +2,6 @@
 use mathlib.Core.Path.{_≡_, refl, sym, ap, _∙_}
 use mathlib.Core.List.{List, [], _∷_, _++_, append-assoc}
 use Prim.Native.Nat.{ℕ, zero, suc}
-use lib.ListN.{length, getD}
 use Rattle.lay.specs.Below.{flat}
 
 pub nil-end : {A : Type 0} (l : List A) → l ++ [] ≡ l

@@ -2,3 +2,5 @@ pub mod Fronts
 pub mod Written
 pub mod Grown
 pub mod Copied
+pub mod Clear
+pub mod Added
