@@ -3,3 +3,4 @@ pub mod Below
 pub mod Bytes
 pub mod Parts
 pub mod Fields
+pub mod Puts

@@ -4,11 +4,12 @@ use mathlib.Core.List.{List, [], _∷_, _++_, append-assoc}
 use Prim.Native.Nat.{ℕ, _+_}
 use native.Mathlib.Omega.{arith}
 use lib.ListN.{length}
+use Rattle.lay.specs.Below.{flat}
 use Rattle.lay.specs.Fields.{fieldBytes}
 use Rattle.model.specs.Content.{Subframe, Parameter, Sample, Component}
 use Rattle.model.specs.Write.{texts, subframeFields, componentFields}
 use Rattle.gather.specs.Book.{samplesOf, componentsOf}
-use Rattle.laying.specs.Parts.{parameterEntry, sampleEntry, subframePart, parameterPart, samplePart, componentPart, textPart, samplesIn, componentsIn}
+use Rattle.laying.specs.Parts.{parameterEntry, sampleEntry, subframePart, copiesPart, parameterPart, samplePart, componentPart, textPart, samplesIn, componentsIn}
 use Rattle.laying.proofs.Fronts.{nil-end}
 
 pub subframe-more : (fs : List Subframe) (f : Subframe) → subframePart (fs ++ (f ∷ [])) ≡ subframePart fs ++ fieldBytes (subframeFields f)
@@ -17,6 +18,13 @@ subframe-more [] f = nil-end (fieldBytes (subframeFields f))
 subframe-more (g ∷ fs) f =
     ap (λ (l : List ℕ). fieldBytes (subframeFields g) ++ l) (subframe-more fs f)
     ∙ sym (append-assoc (fieldBytes (subframeFields g)) (subframePart fs) (fieldBytes (subframeFields f)))
+
+pub copies-more : (n : ℕ) (fs : List Subframe) (f : Subframe) → copiesPart n (fs ++ (f ∷ [])) ≡ copiesPart n fs ++ flat n (λ i. fieldBytes (subframeFields f))
+unfolding copiesPart
+copies-more n [] f = nil-end (flat n (λ i. fieldBytes (subframeFields f)))
+copies-more n (g ∷ fs) f =
+    ap (λ (l : List ℕ). flat n (λ i. fieldBytes (subframeFields g)) ++ l) (copies-more n fs f)
+    ∙ sym (append-assoc (flat n (λ i. fieldBytes (subframeFields g))) (copiesPart n fs) (flat n (λ i. fieldBytes (subframeFields f))))
 
 pub component-more : (cs : List Component) (c : Component) → componentPart (cs ++ (c ∷ [])) ≡ componentPart cs ++ fieldBytes (componentFields c)
 unfolding componentPart

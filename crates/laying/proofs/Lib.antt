@@ -4,3 +4,5 @@ pub mod Grown
 pub mod Copied
 pub mod Clear
 pub mod Added
+pub mod Laid
+pub mod Shares

@@ -1,11 +1,12 @@
 -- Not part of the meaning: the parts of a table along the lists of what was gathered, so that a line's share stands at the
 -- end of its part.
-use Prim.Native.Nat.{ℕ, _+_, _*_}
+use Prim.Native.Nat.{ℕ, _+_, _*_, _≤_}
 use mathlib.Core.List.{List, [], _∷_, _++_}
 use mathlib.Core.Bool.{cond}
 use lib.Dec.{eqb}
 use lib.ListN.{length}
 use Rattle.lay.specs.Below.{flat}
+use Rattle.lay.specs.Bytes.{put}
 use Rattle.lay.specs.Fields.{Field, fld, fieldBytes}
 use Rattle.model.specs.Content.{Subframe, Parameter, Sample, Component}
 use Rattle.gather.specs.Book.{Book}
@@ -76,3 +77,30 @@ componentsAll K = componentsIn (samplesAll K) ++ K .parts
 
 abbrev pub textAll : Book → List ℕ
 textAll K = textPart (K .parameters) ++ texts (K .opened)
+
+-- ---- a table in the making
+
+-- where the parts begin
+pub record Places : Type 0 where
+  pub subframes : ℕ
+  pub parameters : ℕ
+  pub samples : ℕ
+  pub components : ℕ
+  pub text : ℕ
+
+-- out with all that was gathered laid down, each pair n times
+abbrev pub laid : List ℕ → Places → ℕ → Book → List ℕ
+laid out a n K =
+    put (put (put (put (put out (a .subframes) (copiesPart n (K .pairs)))
+    (a .parameters) (parameterPart 0 0 (K .parameters)))
+    (a .samples) (samplePart 0 (samplesAll K)))
+    (a .components) (componentPart (componentsAll K)))
+    (a .text) (textAll K)
+
+-- each part ends before the next begins
+pub record Fits (a : Places) (n : ℕ) (K : Book) (long : ℕ) : Type 0 where
+  pub subframes : a .subframes + length (copiesPart n (K .pairs)) ≤ a .parameters
+  pub parameters : a .parameters + length (parameterPart 0 0 (K .parameters)) ≤ a .samples
+  pub samples : a .samples + length (samplePart 0 (samplesAll K)) ≤ a .components
+  pub components : a .components + length (componentPart (componentsAll K)) ≤ a .text
+  pub text : a .text + length (textAll K) ≤ long
