@@ -6,3 +6,5 @@ pub mod Clear
 pub mod Added
 pub mod Laid
 pub mod Shares
+pub mod Lengths
+pub mod Whole
