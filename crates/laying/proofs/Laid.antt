@@ -1,9 +1,9 @@
 -- A line's share, written at the end of its part, is what the next Book lays down. Assumes nothing.
-use mathlib.Core.Path.{_≡_, refl, sym, ap, ap₂, _∙_}
-use mathlib.Core.List.{List, [], _∷_, _++_}
+use mathlib.Core.Path.{_≡_, ap, _∙_}
+use mathlib.Core.List.{List, _++_}
 use Prim.Native.Nat.{ℕ, _+_, _≤_}
 use native.Mathlib.Omega.{arith}
-use lib.ListN.{length, length-append}
+use lib.ListN.{length}
 use Rattle.lay.specs.Bytes.{put}
 use Rattle.lay.proofs.Puts.{length-put, put-put, put-comm}
 

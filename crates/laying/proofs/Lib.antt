@@ -8,3 +8,4 @@ pub mod Laid
 pub mod Shares
 pub mod Lengths
 pub mod Whole
+pub mod Rising

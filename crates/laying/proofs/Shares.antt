@@ -10,7 +10,7 @@ use Rattle.lay.specs.Fields.{fieldBytes}
 use Rattle.lineforms.specs.Said.{timeIn}
 use Rattle.lineforms.specs.declared.due.Form.{Form}
 use Rattle.lineforms.specs.declared.due.Form.the-variants as form
-use Rattle.model.specs.Content.{Sample, Component}
+use Rattle.model.specs.Content.{Sample}
 use Rattle.model.specs.Write.{texts, subframeFields, componentFields}
 use Rattle.gather.specs.Book.{Book, grow, subframeOf, componentOf, namedOf, samplesOf, componentsOf}
 use Rattle.laying.specs.Parts.{parameterEntry, sampleEntry, copiesPart, parameterPart, samplePart, componentPart, samplesAll, componentsAll, textAll, Places, laid, Fits}

@@ -1,6 +1,6 @@
 -- All parts laid down and the header before them are the table, and later bytes stay. Assumes nothing.
-use mathlib.Core.Path.{_≡_, refl, sym, ap, ap₂, _∙_}
-use mathlib.Core.List.{List, [], _∷_, _++_, append-assoc}
+use mathlib.Core.Path.{_≡_, sym, ap, ap₂, _∙_}
+use mathlib.Core.List.{List, [], _++_, append-assoc}
 use Prim.Native.Nat.{ℕ, _+_, _≤_}
 use native.Mathlib.Omega.{arith}
 use lib.ListN.{length, drop, length-append}
@@ -8,10 +8,10 @@ use Rattle.lay.specs.Bytes.{put}
 use Rattle.lay.specs.Fields.{fieldBytes}
 use Rattle.lay.proofs.Fields.{length-fields}
 use Rattle.lay.proofs.Puts.{put-put, put-front, put-comm}
-use Rattle.model.specs.Content.{Content, Parameter, Sample, Component, noParameter}
+use Rattle.model.specs.Content.{Content, Parameter, Component, noParameter}
 use Rattle.model.specs.Write.{texts, headerFields, write}
-use Rattle.gather.specs.Book.{Book, contentOf, spread}
-use Rattle.laying.specs.Parts.{subframePart, copiesPart, copies, parameterPart, samplePart, componentPart, textPart, samplesIn, componentsIn, samplesAll, componentsAll, textAll, Places, laid}
+use Rattle.gather.specs.Book.{Book, contentOf}
+use Rattle.laying.specs.Parts.{copiesPart, copies, parameterPart, samplePart, componentPart, textPart, samplesIn, componentsIn, samplesAll, componentsAll, textAll, Places, laid}
 use Rattle.laying.proofs.Fronts.{nil-end}
 use Rattle.laying.proofs.Written.{written}
 use Rattle.laying.proofs.Copied.{spread-copied}
