@@ -12,3 +12,12 @@ pub mod Samplings
 pub mod Endings
 pub mod Steps
 pub mod AcceptedLawful
+pub mod Stages
+pub mod OwnRefusals
+pub mod AfterLast
+pub mod FirstHits
+pub mod FromTheTop
+pub mod WordLines
+pub mod ParameterLines
+pub mod NumbersAndLines
+pub mod SheetExamples

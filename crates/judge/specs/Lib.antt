@@ -3,3 +3,4 @@ pub mod Names
 pub mod Sixteen
 pub mod LineTests
 pub mod Sampling
+pub mod Walk

@@ -17,6 +17,7 @@ use Rattle.laying.proofs.Clear.{ClearAt}
 use Rattle.laying.proofs.Added.{addedSamples, addedComponents, addedText, samples-added, components-added, text-added}
 
 pub record Rises (n : ℕ) (K G : Book) : Type 0 where
+  pub pairs : length (K .pairs) ≤ length (G .pairs)
   pub subframes : length (copiesPart n (K .pairs)) ≤ length (copiesPart n (G .pairs))
   pub parameters : length (K .parameters) ≤ length (G .parameters)
   pub samples : length (samplesAll K) ≤ length (samplesAll G)
@@ -25,11 +26,12 @@ pub record Rises (n : ℕ) (K G : Book) : Type 0 where
 
 pub rises-same : (n : ℕ) (K : Book) → Rises n K K
 rises-same n K =
-    record { subframes = omega arith; parameters = omega arith; samples = omega arith; components = omega arith; text = omega arith }
+    record { pairs = omega arith; subframes = omega arith; parameters = omega arith; samples = omega arith; components = omega arith; text = omega arith }
 
 pub rises-on : (n : ℕ) (K G H : Book) → Rises n K G → Rises n G H → Rises n K H
 rises-on n K G H p q =
     record {
+      pairs = omega (arith, p .pairs, q .pairs);
       subframes = omega (arith, p .subframes, q .subframes);
       parameters = omega (arith, p .parameters, q .parameters);
       samples = omega (arith, p .samples, q .samples);
@@ -61,6 +63,27 @@ pairs-rise n form.LabelLine l K = omega arith
 pairs-rise n form.SourceEnd l K = omega arith
 pairs-rise n form.ParameterEnd l K = omega arith
 
+count-rises : (f : Form) (l : List ℕ) (K : Book) → length (K .pairs) ≤ length (grow f l K .pairs)
+count-rises form.Stray l K = omega arith
+count-rises form.Superframe l K = omega arith
+count-rises form.HeaderWord l K = omega arith
+count-rises form.HeaderLine l K = omega arith
+count-rises form.RecordWord l K = omega arith
+count-rises form.RecordLine l K = longer (K .pairs) (subframeOf l ∷ []) (K .pairs ++ (subframeOf l ∷ [])) refl
+count-rises form.NoneWord l K = omega arith
+count-rises form.ParameterWord l K = omega arith
+count-rises form.NameLine l K = omega arith
+count-rises form.OpeningComponent l K = omega arith
+count-rises form.ComponentLine l K = omega arith
+count-rises form.TimeLine l K = omega arith
+count-rises form.SamplesEnd l K = omega arith
+count-rises form.SignedLine l K = omega arith
+count-rises form.RangeLine l K = omega arith
+count-rises form.SourceLine l K = omega arith
+count-rises form.LabelLine l K = omega arith
+count-rises form.SourceEnd l K = omega arith
+count-rises form.ParameterEnd l K = omega arith
+
 parameters-rise : (f : Form) (l : List ℕ) (K : Book) → length (K .parameters) ≤ length (grow f l K .parameters)
 parameters-rise form.Stray l K = omega arith
 parameters-rise form.Superframe l K = omega arith
@@ -85,6 +108,7 @@ parameters-rise form.ParameterEnd l K = longer (K .parameters) (K .opened ∷ []
 pub rises-grow : (n : ℕ) (f : Form) (l : List ℕ) (K : Book) → ClearAt f K → Rises n K (grow f l K)
 rises-grow n f l K c =
     record {
+      pairs = count-rises f l K;
       subframes = pairs-rise n f l K;
       parameters = parameters-rise f l K;
       samples = longer (samplesAll K) (addedSamples f l K) (samplesAll (grow f l K)) (samples-added f l K c);

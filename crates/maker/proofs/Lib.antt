@@ -1,0 +1,5 @@
+pub mod ByNumbers
+pub mod CopyLaws
+pub mod NamesPut
+pub mod Emitting
+pub mod Walks

@@ -1,0 +1,94 @@
+-- The walk over an accepted sheet, step by step. Assumes nothing.
+use mathlib.Core.Path.{_≡_, refl, sym, ap, subst, _∙_}
+use mathlib.Core.Bool.{Bool, true, false, cond}
+use mathlib.Core.Logic.{_⊎_, inl, inr}
+use mathlib.Core.List.{List, [], _∷_, _++_}
+use Prim.Native.Nat.{ℕ, zero, suc, _+_, _-_, _*_, _≤_, _<_}
+use native.Mathlib.Omega.{arith}
+use lib.Dec.{eqb}
+use lib.ListN.{length, drop, length-append}
+use borrow.Author.Tests.{eqb-true}
+use Rattle.text.specs.Refusals.{first}
+use Rattle.text.specs.declared.refusal.Refusal.{Refusal}
+use Rattle.text.specs.declared.refusal.Judged.{Judged}
+use Rattle.text.specs.declared.refusal.Judged.the-variants as judged
+use Rattle.lines.specs.Line.{rawHits}
+use Rattle.lines.specs.Lines.{Lines, none, unended, line, linesOf}
+use Rattle.lines.specs.Order.{lineJudged}
+use Rattle.lines.proofs.Orders.{first-none}
+use Rattle.lineforms.specs.Forms.{dueAfter}
+use Rattle.lineforms.specs.declared.due.Due.{Due}
+use Rattle.lineforms.specs.declared.due.Due.the-variants as due
+use Rattle.lineforms.specs.declared.due.Form.{Form}
+use Rattle.lineforms.specs.declared.due.Form.the-variants as form
+use Rattle.model.specs.Content.{Content, noParameter}
+use Rattle.gather.specs.Book.{Book, grow}
+use Rattle.gather.specs.Tests.{dueTest, testsOf}
+use Rattle.gather.specs.Ruling.{Ruling, Accepted, Refused, formAt, opens, onJudged, run}
+use Rattle.judge.specs.Walk.{onward, endBook}
+use Rattle.laying.proofs.Clear.{Clear, ClearAt, Kept, clear-at, clear-step}
+use Rattle.laying.proofs.Rising.{Rises, rises-same, rises-on, rises-grow}
+
+-- ---- a line of an accepted sheet passes
+
+pub goes : (j : Judged) (k : ℕ) (r : Ruling) (c : Content) → onJudged j k r ≡ Accepted c → j ≡ judged.Passes
+goes judged.Passes k r c e = refl
+goes (judged.Refused q) k r c e = let o : _≡_ {A = ℕ} 0 1 = cc in absurd (omega arith)
+
+-- a form that passes is not stray
+kept : (f : Form) → dueTest f ≡ judged.Passes → Kept f
+kept form.Stray e = let o : _≡_ {A = ℕ} 0 1 = cc in absurd (omega arith)
+kept form.Superframe e = let o : _≡_ {A = ℕ} 0 1 = cc in absurd (omega arith)
+kept form.HeaderWord e = tt
+kept form.HeaderLine e = tt
+kept form.RecordWord e = tt
+kept form.RecordLine e = tt
+kept form.NoneWord e = tt
+kept form.ParameterWord e = tt
+kept form.NameLine e = tt
+kept form.OpeningComponent e = tt
+kept form.ComponentLine e = tt
+kept form.TimeLine e = tt
+kept form.SamplesEnd e = tt
+kept form.SignedLine e = tt
+kept form.RangeLine e = tt
+kept form.SourceLine e = tt
+kept form.LabelLine e = tt
+kept form.SourceEnd e = tt
+kept form.ParameterEnd e = tt
+
+module _ (d : Due) (K : Book) (l : List ℕ) (h : lineJudged true l (testsOf (formAt d K l) K l) ≡ judged.Passes) where
+  pub line-kept : Kept (formAt d K l)
+  unfolding lineJudged
+  line-kept = kept (formAt d K l) (first-none _ h 3)
+
+-- ---- the rest of an accepted run
+
+-- what an accepted run still has before it
+pub record On (d : Due) (K : Book) (os : List ℕ) (k : ℕ) (l : List ℕ) (ls : Lines) (c : Content) : Type 0 where
+  pub passes : lineJudged true l (testsOf (formAt d K l) K l) ≡ judged.Passes
+  pub says : run (dueAfter (formAt d K l)) (grow (formAt d K l) l K) (opens (formAt d K l) (k + 1) os) (k + 1) ls ≡ Accepted c
+
+pub accepted-on : (d : Due) (K : Book) (os : List ℕ) (k : ℕ) (l : List ℕ) (ls : Lines) (c : Content) → run d K os k (line l ls) ≡ Accepted c → On d K os k l ls c
+unfolding run
+accepted-on d K os k l ls c e =
+    let p = goes (lineJudged true l (testsOf (formAt d K l) K l)) (k + 1) (run (dueAfter (formAt d K l)) (grow (formAt d K l) l K) (opens (formAt d K l) (k + 1) os) (k + 1) ls) c e in
+    record { passes = p; says = subst (λ (j : Judged). onJudged j (k + 1) (run (dueAfter (formAt d K l)) (grow (formAt d K l) l K) (opens (formAt d K l) (k + 1) os) (k + 1) ls) ≡ Accepted c) p e }
+
+pub end-on : (d : Due) (K : Book) (l : List ℕ) (ls : Lines) → lineJudged true l (testsOf (formAt d K l) K l) ≡ judged.Passes → endBook d K (line l ls) ≡ endBook (dueAfter (formAt d K l)) (grow (formAt d K l) l K) ls
+unfolding endBook
+end-on d K l ls p = ap (λ (j : Judged). onward j K (endBook (dueAfter (formAt d K l)) (grow (formAt d K l) l K) ls)) p
+
+-- lines only add, to the end
+pub rises-end : (n : ℕ) (d : Due) (K : Book) (os : List ℕ) (k : ℕ) (ls : Lines) (c : Content) → Clear d K → run d K os k ls ≡ Accepted c → Rises n K (endBook d K ls)
+unfolding endBook
+rises-end n d K os k none c h e = rises-same n K
+rises-end n d K os k unended c h e = rises-same n K
+rises-end n d K os k (line l ls) c h e =
+    let o = accepted-on d K os k l ls c e in
+    let at = clear-at K l d h in
+    let G = grow (formAt d K l) l K in
+    let s = clear-step (formAt d K l) l K (line-kept d K l (o .passes)) at in
+    subst (λ (B : Book). Rises n K B) (sym (unfold endBook in end-on d K l ls (o .passes)))
+    (rises-on n K G (endBook (dueAfter (formAt d K l)) G ls) (rises-grow n (formAt d K l) l K at)
+    (rises-end n (dueAfter (formAt d K l)) G (opens (formAt d K l) (k + 1) os) (k + 1) ls c s (o .says)))

@@ -1,0 +1,83 @@
+-- Not part of the meaning: what the code writes at each line, by its counts.
+use Prim.Native.Nat.{ℕ, _+_, _-_, _*_, _≤_}
+use mathlib.Core.List.{List, _++_}
+use lib.ListN.{length}
+use Rattle.lay.specs.Below.{flat}
+use Rattle.lay.specs.Bytes.{put}
+use Rattle.lay.specs.Fields.{fieldBytes}
+use Rattle.text.specs.Fields.{fieldOf}
+use Rattle.lineforms.specs.Said.{pairIn, partIn, timeIn}
+use Rattle.lineforms.specs.declared.due.Form.{Form}
+use Rattle.lineforms.specs.declared.due.Form.the-variants as form
+use Rattle.judge.specs.declared.tally.Tally.{Tally}
+use Rattle.maker.specs.declared.emit.Starts.{Starts}
+use Rattle.maker.specs.declared.entries.Described.{Described}
+use Rattle.maker.specs.Entries.{subframeBy, parameterBy, sampleBy, componentBy}
+
+-- the open parameter by the counts
+abbrev pub describedBy : Tally → Described
+describedBy x =
+    record {
+      name = x .name;
+      mnemonic = x .mnemonic;
+      identification = x .identification;
+      signed = x .signed;
+      identifier = x .identifier;
+      text = x .text;
+      first = x .samples - x .own;
+      count = x .own;
+      value = x .value;
+    }
+
+-- each record pair n times
+abbrev pub emitOf : Form → List ℕ → Tally → Starts → ℕ → List ℕ → List ℕ
+emitOf form.Stray l x a n out = out
+emitOf form.Superframe l x a n out = out
+emitOf form.HeaderWord l x a n out = out
+emitOf form.HeaderLine l x a n out = out
+emitOf form.RecordWord l x a n out = out
+emitOf form.RecordLine l x a n out = put out (36 + 20 * x .pairs) (flat n (λ i. fieldBytes (subframeBy (pairIn l))))
+emitOf form.NoneWord l x a n out = out
+emitOf form.ParameterWord l x a n out = out
+emitOf form.NameLine l x a n out = put out (a .text + x .text) (fieldOf 0 l ++ (fieldOf 1 l ++ fieldOf 2 l))
+emitOf form.OpeningComponent l x a n out = put out (a .components + 6 * x .components) (fieldBytes (componentBy (partIn l)))
+emitOf form.ComponentLine l x a n out = put out (a .components + 6 * x .components) (fieldBytes (componentBy (partIn l)))
+emitOf form.TimeLine l x a n out = put out (a .samples + 8 * x .samples) (fieldBytes (sampleBy (timeIn l) (x .components - x .parts) (x .parts)))
+emitOf form.SamplesEnd l x a n out = out
+emitOf form.SignedLine l x a n out = out
+emitOf form.RangeLine l x a n out = out
+emitOf form.SourceLine l x a n out = out
+emitOf form.LabelLine l x a n out = out
+emitOf form.SourceEnd l x a n out = out
+emitOf form.ParameterEnd l x a n out = put out (a .parameters + 16 * x .parameters) (fieldBytes (parameterBy (describedBy x)))
+
+-- that there is room for it in m bytes
+abbrev pub Roomy : Form → List ℕ → Tally → Starts → ℕ → ℕ → Type 0
+Roomy form.Stray l x a n m = Unit {0}
+Roomy form.Superframe l x a n m = Unit {0}
+Roomy form.HeaderWord l x a n m = Unit {0}
+Roomy form.HeaderLine l x a n m = Unit {0}
+Roomy form.RecordWord l x a n m = Unit {0}
+Roomy form.RecordLine l x a n m = 36 + 20 * x .pairs + 20 * n ≤ m
+Roomy form.NoneWord l x a n m = Unit {0}
+Roomy form.ParameterWord l x a n m = Unit {0}
+Roomy form.NameLine l x a n m = a .text + x .text + length (fieldOf 0 l ++ (fieldOf 1 l ++ fieldOf 2 l)) ≤ m
+Roomy form.OpeningComponent l x a n m = a .components + 6 * x .components + 6 ≤ m
+Roomy form.ComponentLine l x a n m = a .components + 6 * x .components + 6 ≤ m
+Roomy form.TimeLine l x a n m = a .samples + 8 * x .samples + 8 ≤ m
+Roomy form.SamplesEnd l x a n m = Unit {0}
+Roomy form.SignedLine l x a n m = Unit {0}
+Roomy form.RangeLine l x a n m = Unit {0}
+Roomy form.SourceLine l x a n m = Unit {0}
+Roomy form.LabelLine l x a n m = Unit {0}
+Roomy form.SourceEnd l x a n m = Unit {0}
+Roomy form.ParameterEnd l x a n m = a .parameters + 16 * x .parameters + 16 ≤ m
+
+-- no number of the code wraps
+pub record Modest (x : Tally) (a : Starts) : Type 0 where
+  pub parameters : a .parameters ≤ 1000000
+  pub samples : a .samples ≤ 1000000
+  pub components : a .components ≤ 1000000
+  pub text : a .text ≤ 1000000
+  pub own : x .own ≤ x .samples
+  pub parts : x .parts ≤ x .components
