@@ -8,25 +8,22 @@ use lib.ListN.{length, length-append}
 use Rattle.lay.specs.Below.{flat}
 use Rattle.lay.specs.Bytes.{put}
 use Rattle.lay.specs.Fields.{Field, fieldBytes}
-use Rattle.lineforms.specs.Said.{pairIn, partIn, timeIn}
+use Rattle.lineforms.specs.Said.{pairIn, partIn}
 use Rattle.lineforms.specs.declared.due.Form.{Form}
 use Rattle.lineforms.specs.declared.due.Form.the-variants as form
 use Rattle.model.specs.Content.{Parameter, Sample, Subframe, noParameter}
-use Rattle.model.specs.Write.{texts, subframeFields, componentFields}
-use Rattle.gather.specs.Book.{Book, namedOf, subframeOf, componentOf, samplesOf, componentsOf, allComponentsOf}
+use Rattle.model.specs.Write.{texts, componentFields}
+use Rattle.gather.specs.Book.{Book, namedOf, componentOf, samplesOf, componentsOf, allComponentsOf}
 use Rattle.judge.specs.Counts.{textOf, tallyOf}
-use Rattle.laying.specs.Parts.{parameterEntry, sampleEntry, copiesPart, parameterPart, samplePart, componentPart, textPart, samplesIn, componentsIn, samplesAll, componentsAll, textAll, Places}
+use Rattle.laying.specs.Parts.{parameterEntry, sampleEntry, copiesPart, parameterPart, samplePart, componentPart, textPart, samplesIn, componentsIn, samplesAll, componentsAll, textAll}
 use Rattle.laying.proofs.Grown.{textLong}
 use Rattle.laying.proofs.Lengths.{once-long, parameters-long, samples-long, components-long, texts-long}
 use Rattle.laying.proofs.Clear.{ClearAt}
 use Rattle.laying.proofs.Shares.{timed, emitted}
-use Rattle.maker.specs.Entries.{subframeBy, parameterBy, sampleBy, componentBy}
-use Rattle.maker.specs.Emit.{describedBy, emitOf}
+use Rattle.maker.specs.Entries.{parameterBy, sampleBy, componentBy}
+use Rattle.maker.specs.Emit.{placesOf, describedBy, emitOf}
 use Rattle.maker.specs.declared.emit.Starts.{Starts}
 use Rattle.maker.proofs.ByNumbers.{said-subframe, said-component}
-
-abbrev pub placesOf : Starts → Places
-placesOf a = record { subframes = 36; parameters = a .parameters; samples = a .samples; components = a .components; text = a .text }
 
 -- ---- counts and lengths
 

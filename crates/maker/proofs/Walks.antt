@@ -1,21 +1,22 @@
 -- The walk over an accepted sheet, step by step. Assumes nothing.
 use mathlib.Core.Path.{_≡_, refl, sym, ap, subst, _∙_}
-use mathlib.Core.Bool.{Bool, true, false, cond}
-use mathlib.Core.Logic.{_⊎_, inl, inr}
-use mathlib.Core.List.{List, [], _∷_, _++_}
-use Prim.Native.Nat.{ℕ, zero, suc, _+_, _-_, _*_, _≤_, _<_}
+use mathlib.Core.Bool.{Bool, true, false}
+use mathlib.Core.List.{List}
+use Prim.Native.Nat.{ℕ, _+_, _-_, _<_}
 use native.Mathlib.Omega.{arith}
-use lib.Dec.{eqb}
-use lib.ListN.{length, drop, length-append}
-use borrow.Author.Tests.{eqb-true}
-use Rattle.text.specs.Refusals.{first}
+use lib.Dec.{ltb}
+use lib.ListN.{length, drop, length-drop}
+use borrow.Author.Tests.{ltb-true, ltb-false}
+use Rattle.text.specs.Refusals.{first, orElse}
 use Rattle.text.specs.declared.refusal.Refusal.{Refusal}
 use Rattle.text.specs.declared.refusal.Judged.{Judged}
 use Rattle.text.specs.declared.refusal.Judged.the-variants as judged
-use Rattle.lines.specs.Line.{rawHits}
+use Rattle.text.specs.Parts.{indexOf}
+use Rattle.lines.specs.Line.{endByte, rawHits}
 use Rattle.lines.specs.Lines.{Lines, none, unended, line, linesOf}
-use Rattle.lines.specs.Order.{lineJudged}
-use Rattle.lines.proofs.Orders.{first-none}
+use Rattle.lines.specs.Order.{hits, lineJudged}
+use Rattle.lines.proofs.Orders.{first-none, first-append}
+use Rattle.lines.proofs.Cuts.{headJudged, lines-cut, lines-open}
 use Rattle.lineforms.specs.Forms.{dueAfter}
 use Rattle.lineforms.specs.declared.due.Due.{Due}
 use Rattle.lineforms.specs.declared.due.Due.the-variants as due
@@ -24,9 +25,9 @@ use Rattle.lineforms.specs.declared.due.Form.the-variants as form
 use Rattle.model.specs.Content.{Content, noParameter}
 use Rattle.gather.specs.Book.{Book, grow}
 use Rattle.gather.specs.Tests.{dueTest, testsOf}
-use Rattle.gather.specs.Ruling.{Ruling, Accepted, Refused, formAt, opens, onJudged, run}
+use Rattle.gather.specs.Ruling.{Ruling, Accepted, Refused, formAt, opens, atEnd, onJudged, run}
 use Rattle.judge.specs.Walk.{onward, endBook}
-use Rattle.laying.proofs.Clear.{Clear, ClearAt, Kept, clear-at, clear-step}
+use Rattle.laying.proofs.Clear.{Clear, Kept, clear-at, clear-step}
 use Rattle.laying.proofs.Rising.{Rises, rises-same, rises-on, rises-grow}
 
 -- ---- a line of an accepted sheet passes
@@ -92,3 +93,65 @@ rises-end n d K os k (line l ls) c h e =
     subst (λ (B : Book). Rises n K B) (sym (unfold endBook in end-on d K l ls (o .passes)))
     (rises-on n K G (endBook (dueAfter (formAt d K l)) G ls) (rises-grow n (formAt d K l) l K at)
     (rises-end n (dueAfter (formAt d K l)) G (opens (formAt d K l) (k + 1) os) (k + 1) ls c s (o .says)))
+
+-- ---- the end of an accepted run
+
+closed-end : (d : Due) (K : Book) (os : List ℕ) (k : ℕ) (c : Content) → Clear d K → atEnd d K os k ≡ Accepted c → K .opened ≡ noParameter
+closed-end due.HeaderWord K os k c h e = let o : _≡_ {A = ℕ} 0 1 = cc in absurd (omega arith)
+closed-end due.HeaderLine K os k c h e = let o : _≡_ {A = ℕ} 0 1 = cc in absurd (omega arith)
+closed-end due.RecordWord K os k c h e = let o : _≡_ {A = ℕ} 0 1 = cc in absurd (omega arith)
+closed-end due.RecordLine K os k c h e = let o : _≡_ {A = ℕ} 0 1 = cc in absurd (omega arith)
+closed-end due.Opening K os k c h e = let o : _≡_ {A = ℕ} 0 1 = cc in absurd (omega arith)
+closed-end due.NameLine K os k c h e = let o : _≡_ {A = ℕ} 0 1 = cc in absurd (omega arith)
+closed-end due.FirstComponent K os k c h e = let o : _≡_ {A = ℕ} 0 1 = cc in absurd (omega arith)
+closed-end due.NextComponent K os k c h e = let o : _≡_ {A = ℕ} 0 1 = cc in absurd (omega arith)
+closed-end due.AfterSample K os k c h e = let o : _≡_ {A = ℕ} 0 1 = cc in absurd (omega arith)
+closed-end due.SignedLine K os k c h e = let o : _≡_ {A = ℕ} 0 1 = cc in absurd (omega arith)
+closed-end due.RangeLine K os k c h e = let o : _≡_ {A = ℕ} 0 1 = cc in absurd (omega arith)
+closed-end due.SourceLine K os k c h e = let o : _≡_ {A = ℕ} 0 1 = cc in absurd (omega arith)
+closed-end due.AfterSource K os k c h e = let o : _≡_ {A = ℕ} 0 1 = cc in absurd (omega arith)
+closed-end due.SourceBlank K os k c h e = let o : _≡_ {A = ℕ} 0 1 = cc in absurd (omega arith)
+closed-end due.AfterSourceBlank K os k c h e = let o : _≡_ {A = ℕ} 0 1 = cc in absurd (omega arith)
+closed-end due.NextParameter K os k c h e = h
+closed-end due.Nothing K os k c h e = h
+
+-- no parameter is open there
+pub end-clear : (d : Due) (K : Book) (os : List ℕ) (k : ℕ) (ls : Lines) (c : Content) → Clear d K → run d K os k ls ≡ Accepted c → endBook d K ls .opened ≡ noParameter
+unfolding endBook run
+end-clear d K os k none c h e = closed-end d K os (k + 1) c h e
+end-clear d K os k unended c h e = let o : _≡_ {A = ℕ} 0 1 = cc in absurd (omega arith)
+end-clear d K os k (line l ls) c h e =
+    let o = accepted-on d K os k l ls c e in
+    let at = clear-at K l d h in
+    let s = clear-step (formAt d K l) l K (line-kept d K l (o .passes)) at in
+    ap (λ (B : Book). B .opened) (end-on d K l ls (o .passes))
+    ∙ end-clear (dueAfter (formAt d K l)) (grow (formAt d K l) l K) (opens (formAt d K l) (k + 1) os) (k + 1) ls c s (o .says)
+
+-- ---- a cursor in an accepted sheet finds a line
+
+some-line : (t : List ℕ) → 0 < length t → linesOf t ≡ none → ⊥
+some-line t h e = go (ltb (indexOf endByte t) (length t)) refl
+  where
+    go : (b : Bool) → ltb (indexOf endByte t) (length t) ≡ b → ⊥
+    go true p =
+        let q = sym (lines-cut t (ltb-true (indexOf endByte t) (length t) p)) ∙ e in
+        let o : _≡_ {A = ℕ} 0 1 = cc in
+        omega arith
+    go false p =
+        let q = sym (lines-open t (ltb-false (indexOf endByte t) (length t) p) h) ∙ e in
+        let o : _≡_ {A = ℕ} 0 1 = cc in
+        omega arith
+
+pub refused-not : (d : Due) (K : Book) (os : List ℕ) (k : ℕ) (ls : Lines) (c : Content) (r : Refusal) → (ls ≡ none → ⊥) → run d K os k ls ≡ Accepted c → headJudged ls ≡ judged.Refused r → ⊥
+unfolding run headJudged lineJudged
+refused-not d K os k none c r m e h = m refl
+refused-not d K os k unended c r m e h = let o : _≡_ {A = ℕ} 0 1 = cc in omega arith
+refused-not d K os k (line l ls) c r m e h =
+    let o = accepted-on d K os k l ls c e in
+    let q : orElse (first (rawHits true l)) (first (hits (testsOf (formAt d K l) K l))) ≡ judged.Passes = sym (first-append (rawHits true l) (hits (testsOf (formAt d K l) K l))) ∙ o .passes in
+    let t : judged.Refused r ≡ judged.Passes = subst (λ (j : Judged). orElse j (first (hits (testsOf (formAt d K l) K l))) ≡ judged.Passes) h q in
+    let z : _≡_ {A = ℕ} 0 1 = cc in
+    omega arith
+
+pub line-there : (s : List ℕ) (at : ℕ) → at < length s → linesOf (drop at s) ≡ none → ⊥
+line-there s at h e = some-line (drop at s) (simp length-drop (omega arith)) e

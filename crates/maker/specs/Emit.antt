@@ -1,6 +1,7 @@
 -- Not part of the meaning: what the code writes at each line, by its counts.
 use Prim.Native.Nat.{ℕ, _+_, _-_, _*_, _≤_}
 use mathlib.Core.List.{List, _++_}
+use mathlib.Core.Path.{_≡_}
 use lib.ListN.{length}
 use Rattle.lay.specs.Below.{flat}
 use Rattle.lay.specs.Bytes.{put}
@@ -9,10 +10,19 @@ use Rattle.text.specs.Fields.{fieldOf}
 use Rattle.lineforms.specs.Said.{pairIn, partIn, timeIn}
 use Rattle.lineforms.specs.declared.due.Form.{Form}
 use Rattle.lineforms.specs.declared.due.Form.the-variants as form
+use Rattle.model.specs.Content.{Content}
+use Rattle.gather.specs.Ruling.{Accepted, judgeOf}
+use Rattle.judge.specs.Counts.{Small, tallyOf}
+use Rattle.judge.specs.Walk.{bookOf}
 use Rattle.judge.specs.declared.tally.Tally.{Tally}
+use Rattle.laying.specs.Parts.{copies, Places, Fits}
 use Rattle.maker.specs.declared.emit.Starts.{Starts}
 use Rattle.maker.specs.declared.entries.Described.{Described}
 use Rattle.maker.specs.Entries.{subframeBy, parameterBy, sampleBy, componentBy}
+
+abbrev pub placesOf : Starts → Places
+placesOf a =
+    record { subframes = 36; parameters = a .parameters; samples = a .samples; components = a .components; text = a .text }
 
 -- the open parameter by the counts
 abbrev pub describedBy : Tally → Described
@@ -81,3 +91,13 @@ pub record Modest (x : Tally) (a : Starts) : Type 0 where
   pub text : a .text ≤ 1000000
   pub own : x .own ≤ x .samples
   pub parts : x .parts ≤ x .components
+
+-- an accepted sheet, and room for its table
+pub record Walkable (s : List ℕ) (a : Starts) (n : ℕ) (long : ℕ) : Type 0 where
+  pub content : Content
+  pub accepted : judgeOf s ≡ Accepted content
+  pub short : length s ≤ 65536
+  pub small : Small (tallyOf (bookOf s)) 65536
+  pub fits : Fits (placesOf a) n (bookOf s) long
+  pub copied : n ≡ copies (length (bookOf s .pairs)) (bookOf s .declared)
+  pub near : (a .parameters ≤ 1000000) × (a .samples ≤ 1000000) × (a .components ≤ 1000000) × (a .text ≤ 1000000)

@@ -3,3 +3,4 @@ pub mod copies;
 pub mod emit;
 pub mod entries;
 pub mod places;
+pub mod walk;
