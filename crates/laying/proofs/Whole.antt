@@ -35,7 +35,7 @@ headed : (out : List ℕ) (a : ℕ) (z y : List ℕ) → length z ≡ a → a + 
 headed out a z y e h =
     put-comm out 0 z a y (omega arith) h ∙ (put-put out 0 z y a (omega arith) h ∙ put-front out (z ++ y))
 
-header-long : (c : Content) → length (fieldBytes (headerFields 1 c)) ≡ 36
+pub header-long : (c : Content) → length (fieldBytes (headerFields 1 c)) ≡ 36
 unfolding headerFields
 header-long c = length-fields (headerFields 1 c)
 
@@ -61,7 +61,7 @@ module _ (K : Book) (clear : K .opened ≡ noParameter) (none : K .parts ≡ [])
   all-text = sym (ap (λ (p : Parameter). textPart (K .parameters) ++ texts p) clear ∙ nil-end (textPart (K .parameters)))
 
   -- the table's writing by what was gathered
-  gathered : write 1 (contentOf K) ≡ fieldBytes (headerFields 1 (contentOf K)) ++ (copiesPart (copies (length (K .pairs)) (K .declared)) (K .pairs) ++ (parameterPart 0 0 (K .parameters) ++ (samplePart 0 (samplesAll K) ++ (componentPart (componentsAll K) ++ textAll K))))
+  pub gathered : write 1 (contentOf K) ≡ fieldBytes (headerFields 1 (contentOf K)) ++ (copiesPart (copies (length (K .pairs)) (K .declared)) (K .pairs) ++ (parameterPart 0 0 (K .parameters) ++ (samplePart 0 (samplesAll K) ++ (componentPart (componentsAll K) ++ textAll K))))
   gathered =
       written (contentOf K)
       ∙ ap (λ (l : List ℕ). fieldBytes (headerFields 1 (contentOf K)) ++ l)

@@ -95,13 +95,13 @@ module _ (c : Content) where
   unfolding allComponents
   all-components = components-flat (allSamples c) ∙ ap componentsIn all-samples
 
-  samples-long : samples c ≡ length (allSamples c)
+  pub samples-listed : samples c ≡ length (allSamples c)
   unfolding allSamples firstSample
-  samples-long = sym (length-flat (parameters c) (λ i. parameter c i .samples))
+  samples-listed = sym (length-flat (parameters c) (λ i. parameter c i .samples))
 
   components-long : components c ≡ length (allComponents c)
   unfolding allComponents firstComponent wide
-  components-long = ap (λ (n : ℕ). sum n (wide (allSamples c))) samples-long ∙ sym (length-flat (length (allSamples c)) (λ j. getD (allSamples c) j noSample .components))
+  components-long = ap (λ (n : ℕ). sum n (wide (allSamples c))) samples-listed ∙ sym (length-flat (length (allSamples c)) (λ j. getD (allSamples c) j noSample .components))
 
   parameters-part : flat (parameters c) (λ i. fieldBytes (parameterFields c i)) ≡ parameterPart 0 0 (c .parameters)
   unfolding parameterFields textStart firstSample long many
@@ -117,7 +117,7 @@ module _ (c : Content) where
   samples-part : flat (samples c) (λ j. fieldBytes (sampleFields c j)) ≡ samplePart 0 (samplesIn (c .parameters))
   unfolding sampleFields firstComponent wide
   samples-part =
-      ap (λ (n : ℕ). flat n (λ j. fieldBytes (sampleFields c j))) samples-long
+      ap (λ (n : ℕ). flat n (λ j. fieldBytes (sampleFields c j))) samples-listed
       ∙ flat-same (length (allSamples c)) (λ j. fieldBytes (sampleFields c j))
       (λ j. fieldBytes (sampleEntry (getD (allSamples c) j noSample) (0 + sum j (wide (allSamples c)))))
       (λ j h.

@@ -5,3 +5,5 @@ pub mod Emitting
 pub mod Walks
 pub mod Room
 pub mod Writing
+pub mod Making
+pub mod Ended
