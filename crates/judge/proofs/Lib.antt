@@ -3,3 +3,14 @@ pub mod SixteenLaws
 pub mod Growing
 pub mod TestLaws
 pub mod SamplingLaws
+pub mod KeptLaws
+pub mod FittingLaws
+pub mod Arrays
+pub mod Standing
+pub mod Bounds
+pub mod Sampled
+pub mod Apart
+pub mod Runs
+pub mod Identifying
+pub mod Judging
+pub mod Judgings

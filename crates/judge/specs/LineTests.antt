@@ -1,5 +1,6 @@
 -- Not part of the meaning: the tests of a line by the code's counts, in place of what was gathered.
-use Prim.Native.Nat.{ℕ}
+use Prim.Native.Nat.{ℕ, _≤_}
+use mathlib.Core.Path.{_≡_}
 use mathlib.Core.Bool.{_||_}
 use mathlib.Core.List.{List, [], _∷_}
 use lib.Dec.{leb}
@@ -12,6 +13,7 @@ use Rattle.lineforms.specs.declared.due.Form.{Form}
 use Rattle.lineforms.specs.declared.due.Form.the-variants.{Stray, Superframe, HeaderWord, HeaderLine, RecordWord, RecordLine, NoneWord, ParameterWord, NameLine, OpeningComponent, ComponentLine, TimeLine, SamplesEnd, SignedLine, RangeLine, SourceLine, LabelLine, SourceEnd, ParameterEnd}
 use Rattle.model.specs.Limits.{base}
 use Rattle.gather.specs.Tests.{dueTest}
+use Rattle.judge.specs.declared.sampling.Sampling.{Sampling}
 use Rattle.judge.specs.declared.tally.Tally.{Tally}
 
 unfoldable pub roomForParameterIn : Tally → Judged
@@ -73,3 +75,29 @@ fieldsIn ParameterEnd x ws bs l = []
 -- 5 and 10, 12, the fields
 unfoldable pub formTests : Form → Tally → List ℕ → List ℕ → List ℕ → Judged
 formTests f x ws bs l = first (dueTest f ∷ roomIn f x ∷ fieldsIn f x ws bs l)
+
+-- what is kept of the open sample goes with the counts
+pub record Narrow (n : ℕ) (g : Sampling) : Type 0 where
+  pub count : g .spots .count ≡ n
+  pub width : g .width ≤ 32
+
+abbrev pub Fitting : Form → Tally → Sampling → Type 0
+Fitting Stray x g = Unit {0}
+Fitting Superframe x g = Unit {0}
+Fitting HeaderWord x g = Unit {0}
+Fitting HeaderLine x g = Unit {0}
+Fitting RecordWord x g = Unit {0}
+Fitting RecordLine x g = Unit {0}
+Fitting NoneWord x g = Unit {0}
+Fitting ParameterWord x g = Unit {0}
+Fitting NameLine x g = Unit {0}
+Fitting OpeningComponent x g = Narrow 0 g
+Fitting ComponentLine x g = Narrow (x .parts) g
+Fitting TimeLine x g = Unit {0}
+Fitting SamplesEnd x g = Unit {0}
+Fitting SignedLine x g = Unit {0}
+Fitting RangeLine x g = Unit {0}
+Fitting SourceLine x g = Unit {0}
+Fitting LabelLine x g = Unit {0}
+Fitting SourceEnd x g = Unit {0}
+Fitting ParameterEnd x g = Unit {0}

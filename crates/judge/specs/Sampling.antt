@@ -1,15 +1,19 @@
 -- Not part of the meaning: what the code keeps of the open sample and of the open parameter's first one.
-use Prim.Native.Nat.{ℕ, _+_, _-_, _*_}
-use mathlib.Core.Bool.{true, cond, not, _&&_}
-use mathlib.Core.List.{[], _∷_, _++_}
+use Prim.Native.Nat.{ℕ, _+_, _-_, _*_, _<_, _≤_}
+use mathlib.Core.Bool.{true, cond, not, _&&_, _||_}
+use mathlib.Core.List.{List, [], _∷_, _++_}
 use mathlib.Core.Path.{_≡_}
-use lib.Dec.{eqb}
+use lib.Dec.{eqb, ltb}
+use Rattle.sample.specs.Clash.{twice}
 use Rattle.sample.specs.Promise.{listed}
 use Rattle.sample.specs.declared.component.Component.{Component as Piece}
 use Rattle.text.specs.Refusals.{when}
 use Rattle.text.specs.declared.refusal.Refusal.the-variants.{BadSample}
 use Rattle.text.specs.declared.refusal.Judged.{Judged}
 use Rattle.text.specs.declared.refusal.Judged.the-variants.{Passes}
+use Rattle.lineforms.specs.Said.{partIn}
+use Rattle.lineforms.specs.declared.due.Form.{Form}
+use Rattle.lineforms.specs.declared.due.Form.the-variants.{Stray, Superframe, HeaderWord, HeaderLine, RecordWord, RecordLine, NoneWord, ParameterWord, NameLine, OpeningComponent, ComponentLine, TimeLine, SamplesEnd, SignedLine, RangeLine, SourceLine, LabelLine, SourceEnd, ParameterEnd}
 use Rattle.lineforms.specs.declared.said.Part.{Part}
 use Rattle.judge.specs.declared.sampling.Sampling.{Sampling}
 
@@ -54,3 +58,78 @@ pub record Opened (r : Sampling) : Type 0 where
   pub first : r .first ≡ 0
   pub lies : r .lies ≡ 0
   pub within : r .within ≡ true
+
+-- ---- by what a line turned out to be
+
+-- a bit twice, or a width above 32, with one component more
+abbrev pub joinedIn : Sampling → Part → Judged
+joinedIn g p = when (twice (listed (g .spots) ++ (spotOf p ∷ [])) || ltb 32 (g .width + bitsIn p)) BadSample
+
+abbrev pub sampleIn : Form → List ℕ → Sampling → ℕ → Judged
+sampleIn Stray l g own = Passes
+sampleIn Superframe l g own = Passes
+sampleIn HeaderWord l g own = Passes
+sampleIn HeaderLine l g own = Passes
+sampleIn RecordWord l g own = Passes
+sampleIn RecordLine l g own = Passes
+sampleIn NoneWord l g own = Passes
+sampleIn ParameterWord l g own = Passes
+sampleIn NameLine l g own = Passes
+sampleIn OpeningComponent l g own = joinedIn g (partIn l)
+sampleIn ComponentLine l g own = joinedIn g (partIn l)
+sampleIn TimeLine l g own = widthTestIn own (g .width) (g .first)
+sampleIn SamplesEnd l g own = Passes
+sampleIn SignedLine l g own = Passes
+sampleIn RangeLine l g own = Passes
+sampleIn SourceLine l g own = Passes
+sampleIn LabelLine l g own = Passes
+sampleIn SourceEnd l g own = Passes
+sampleIn ParameterEnd l g own = Passes
+
+-- there is room for one component more
+pub record Roomy (g : Sampling) : Type 0 where
+  pub count : g .spots .count < 8
+  pub width : g .width ≤ 32
+
+abbrev pub Apt : Form → Sampling → Type 0
+Apt Stray g = Unit {0}
+Apt Superframe g = Unit {0}
+Apt HeaderWord g = Unit {0}
+Apt HeaderLine g = Unit {0}
+Apt RecordWord g = Unit {0}
+Apt RecordLine g = Unit {0}
+Apt NoneWord g = Unit {0}
+Apt ParameterWord g = Unit {0}
+Apt NameLine g = Unit {0}
+Apt OpeningComponent g = Roomy g
+Apt ComponentLine g = Roomy g
+Apt TimeLine g = Unit {0}
+Apt SamplesEnd g = Unit {0}
+Apt SignedLine g = Unit {0}
+Apt RangeLine g = Unit {0}
+Apt SourceLine g = Unit {0}
+Apt LabelLine g = Unit {0}
+Apt SourceEnd g = Unit {0}
+Apt ParameterEnd g = Unit {0}
+
+-- r is what g becomes, parts components and own samples before
+abbrev pub After : Form → List ℕ → Sampling → ℕ → ℕ → Sampling → Type 0
+After Stray l g parts own r = r ≡ g
+After Superframe l g parts own r = r ≡ g
+After HeaderWord l g parts own r = r ≡ g
+After HeaderLine l g parts own r = r ≡ g
+After RecordWord l g parts own r = r ≡ g
+After RecordLine l g parts own r = r ≡ g
+After NoneWord l g parts own r = r ≡ g
+After ParameterWord l g parts own r = r ≡ g
+After NameLine l g parts own r = Opened r
+After OpeningComponent l g parts own r = Widened g (partIn l) parts r
+After ComponentLine l g parts own r = Widened g (partIn l) parts r
+After TimeLine l g parts own r = Timed g own r
+After SamplesEnd l g parts own r = r ≡ g
+After SignedLine l g parts own r = r ≡ g
+After RangeLine l g parts own r = r ≡ g
+After SourceLine l g parts own r = r ≡ g
+After LabelLine l g parts own r = r ≡ g
+After SourceEnd l g parts own r = r ≡ g
+After ParameterEnd l g parts own r = Opened r

@@ -1,11 +1,19 @@
 // 15: names of earlier parameters, kept as places in the sheet.
 use lay::same_text;
+use lineforms::due::Form;
+use text::field::field_at;
+use text::field::field_of;
 use text::part::between;
+use text::refusal::Judged;
+use text::refusal::Refusal;
 ghost use mathlib.Core.Path.{_≡_};
-ghost use mathlib.Core.Bool.{_||_};
+ghost use mathlib.Core.Bool.{not, _||_};
+ghost use Prim.Native.Nat.{_≤_};
 ghost use lib.ListN.{length};
 ghost use Rattle.text.specs.Blanks.{isEmpty};
-ghost use Rattle.judge.specs.Names.{textAt, textsAt, unlikeAll};
+ghost use Rattle.judge.specs.Names.{textAt, textsAt, unlikeAll, unlikeNames, namesIn, placeIn, noPlaces, placesAfter};
+ghost use Rattle.text.specs.Refusals.{when};
+ghost use Rattle.text.specs.declared.refusal.Refusal.the-variants.{Repeated};
 
 // The text at a place; nothing where the sheet has no such place.
 fn text_at(sheet: &[u8], start: usize, end: usize) -> &[u8]
@@ -44,4 +52,142 @@ pub fn unlike_or_empty(sheet: &[u8], starts: &[usize], ends: &[usize], text: &[u
         return true;
     }
     unlike(sheet, starts, ends, text)
+}
+
+// Whether a 7-field line's texts are none of these.
+fn unlike_names(
+    sheet: &[u8],
+    line: &[u8],
+    a: &[usize],
+    b: &[usize],
+    c: &[usize],
+    d: &[usize],
+    e: &[usize],
+    f: &[usize],
+) -> bool
+    requires { ⌜ (length (now a) ≡ length (now b)) × (length (now c) ≡ length (now d)) × (length (now e) ≡ length (now f)) ⌝ }
+    ensures { λ r. ⌜ r ≡ unlikeNames (textsAt (now (sheet .entry)) (now (a .entry)) (now (b .entry))) (textsAt (now (sheet .entry)) (now (c .entry)) (now (d .entry))) (textsAt (now (sheet .entry)) (now (e .entry)) (now (f .entry))) (now (line .entry)) ⌝ }
+{
+    if !unlike(sheet, a, b, field_of(line, 0)) {
+        return false;
+    }
+    if !unlike_or_empty(sheet, c, d, field_of(line, 1)) {
+        return false;
+    }
+    unlike_or_empty(sheet, e, f, field_of(line, 2))
+}
+
+fn repeated_unless(apart: bool) -> Judged
+    ensures { λ r. ⌜ r ≡ when (not apart) Repeated ⌝ }
+{
+    if apart {
+        return Judged::Passes;
+    }
+    Judged::Refused(Refusal::Repeated)
+}
+
+// 15 of a line, by what it turned out to be; a and b are where names start and end, c and d mnemonics, e and f identifications.
+pub fn names_judged(
+    form: Form,
+    sheet: &[u8],
+    line: &[u8],
+    a: &[usize],
+    b: &[usize],
+    c: &[usize],
+    d: &[usize],
+    e: &[usize],
+    f: &[usize],
+) -> Judged
+    requires { ⌜ (length (now a) ≡ length (now b)) × (length (now c) ≡ length (now d)) × (length (now e) ≡ length (now f)) ⌝ }
+    ensures { λ r. ⌜ r ≡ namesIn form (textsAt (now (sheet .entry)) (now (a .entry)) (now (b .entry))) (textsAt (now (sheet .entry)) (now (c .entry)) (now (d .entry))) (textsAt (now (sheet .entry)) (now (e .entry)) (now (f .entry))) (now (line .entry)) ⌝ }
+{
+    match form {
+        Form::Stray => Judged::Passes,
+        Form::Superframe => Judged::Passes,
+        Form::HeaderWord => Judged::Passes,
+        Form::HeaderLine => Judged::Passes,
+        Form::RecordWord => Judged::Passes,
+        Form::RecordLine => Judged::Passes,
+        Form::NoneWord => Judged::Passes,
+        Form::ParameterWord => Judged::Passes,
+        Form::NameLine => repeated_unless(unlike_names(sheet, line, a, b, c, d, e, f)),
+        Form::OpeningComponent => Judged::Passes,
+        Form::ComponentLine => Judged::Passes,
+        Form::TimeLine => Judged::Passes,
+        Form::SamplesEnd => Judged::Passes,
+        Form::SignedLine => Judged::Passes,
+        Form::RangeLine => Judged::Passes,
+        Form::SourceLine => Judged::Passes,
+        Form::LabelLine => Judged::Passes,
+        Form::SourceEnd => Judged::Passes,
+        Form::ParameterEnd => Judged::Passes,
+    }
+}
+
+// Where a text stands in the sheet.
+pub struct Place {
+    pub start: usize,
+    pub end: usize,
+}
+
+// Where the open parameter's texts stand.
+pub struct Places {
+    pub name: Place,
+    pub mnemonic: Place,
+    pub identification: Place,
+}
+
+pub fn no_places() -> Places
+    ensures { λ r. ⌜ r ≡ noPlaces ⌝ }
+{
+    let none = Place { start: 0, end: 0 };
+    Places {
+        name: none,
+        mnemonic: none,
+        identification: none,
+    }
+}
+
+// Field k of a line that begins here in the sheet.
+fn place_in(line: &[u8], begin: usize, k: usize) -> Place
+    requires { ⌜ (begin ≤ 65536) × (length (now line) ≤ 65536) ⌝ }
+    ensures { λ r. ⌜ r ≡ placeIn (now (line .entry)) begin k ⌝ }
+{
+    let f = field_at(line, k);
+    Place {
+        start: begin + f.start,
+        end: begin + f.end,
+    }
+}
+
+// The 7-field line opens a parameter, the last blank line closes it.
+pub fn places_after(form: Form, line: &[u8], begin: usize, here: Places) -> Places
+    requires { ⌜ (begin ≤ 65536) × (length (now line) ≤ 65536) ⌝ }
+    ensures { λ r. ⌜ r ≡ placesAfter form (now (line .entry)) begin here ⌝ }
+{
+    match form {
+        Form::Stray => here,
+        Form::Superframe => here,
+        Form::HeaderWord => here,
+        Form::HeaderLine => here,
+        Form::RecordWord => here,
+        Form::RecordLine => here,
+        Form::NoneWord => here,
+        Form::ParameterWord => here,
+        Form::NameLine => Places {
+            name: place_in(line, begin, 0),
+            mnemonic: place_in(line, begin, 1),
+            identification: place_in(line, begin, 2),
+        },
+        Form::OpeningComponent => here,
+        Form::ComponentLine => here,
+        Form::TimeLine => here,
+        Form::SamplesEnd => here,
+        Form::SignedLine => here,
+        Form::RangeLine => here,
+        Form::SourceLine => here,
+        Form::LabelLine => here,
+        Form::SourceEnd => here,
+        Form::ParameterEnd => no_places(),
+    }
 }

@@ -1,5 +1,7 @@
 // 14: the open sample's components side by side, and what is kept of the open parameter's first sample.
+use lineforms::due::Form;
 use lineforms::said::Part;
+use lineforms::said::part_in;
 use sample::clash::names_twice;
 use sample::component::Component;
 use sample::component::Components;
@@ -15,7 +17,7 @@ ghost use Rattle.sample.specs.Promise.{listed};
 ghost use Rattle.text.specs.Refusals.{when};
 ghost use Rattle.text.specs.declared.refusal.Refusal.the-variants.{BadSample};
 ghost use Rattle.lineforms.specs.Said.{Modest};
-ghost use Rattle.judge.specs.Sampling.{spotOf, bitsIn, widthTestIn, Widened, Timed, Opened};
+ghost use Rattle.judge.specs.Sampling.{spotOf, bitsIn, widthTestIn, Widened, Timed, Opened, sampleIn, Apt, After};
 
 // The open sample: its width, the subframe of its first component, whether all lie there. The first sample: the same.
 pub struct Sampling {
@@ -131,5 +133,61 @@ pub fn timed(g: Sampling, own: usize) -> Sampling
         lies: g.lies,
         within: g.within,
         ..none
+    }
+}
+
+// 14 of a line, by what it turned out to be.
+pub fn sample_judged(form: Form, line: &[u8], g: Sampling, own: usize) -> Judged
+    requires { ⌜ Apt form g ⌝ }
+    ensures { λ r. ⌜ r ≡ sampleIn form (now (line .entry)) g own ⌝ }
+{
+    match form {
+        Form::Stray => Judged::Passes,
+        Form::Superframe => Judged::Passes,
+        Form::HeaderWord => Judged::Passes,
+        Form::HeaderLine => Judged::Passes,
+        Form::RecordWord => Judged::Passes,
+        Form::RecordLine => Judged::Passes,
+        Form::NoneWord => Judged::Passes,
+        Form::ParameterWord => Judged::Passes,
+        Form::NameLine => Judged::Passes,
+        Form::OpeningComponent => joined_judged(g, part_in(line)),
+        Form::ComponentLine => joined_judged(g, part_in(line)),
+        Form::TimeLine => width_judged(g, own),
+        Form::SamplesEnd => Judged::Passes,
+        Form::SignedLine => Judged::Passes,
+        Form::RangeLine => Judged::Passes,
+        Form::SourceLine => Judged::Passes,
+        Form::LabelLine => Judged::Passes,
+        Form::SourceEnd => Judged::Passes,
+        Form::ParameterEnd => Judged::Passes,
+    }
+}
+
+// What is kept after a line that passed, parts components and own samples before it.
+pub fn sampling_after(form: Form, line: &[u8], g: Sampling, parts: usize, own: usize) -> Sampling
+    requires { ⌜ Apt form g ⌝ }
+    ensures { λ r. ⌜ After form (now (line .entry)) g parts own r ⌝ }
+{
+    match form {
+        Form::Stray => g,
+        Form::Superframe => g,
+        Form::HeaderWord => g,
+        Form::HeaderLine => g,
+        Form::RecordWord => g,
+        Form::RecordLine => g,
+        Form::NoneWord => g,
+        Form::ParameterWord => g,
+        Form::NameLine => no_sample(),
+        Form::OpeningComponent => with_part(g, part_in(line), parts),
+        Form::ComponentLine => with_part(g, part_in(line), parts),
+        Form::TimeLine => timed(g, own),
+        Form::SamplesEnd => g,
+        Form::SignedLine => g,
+        Form::RangeLine => g,
+        Form::SourceLine => g,
+        Form::LabelLine => g,
+        Form::SourceEnd => g,
+        Form::ParameterEnd => no_sample(),
     }
 }

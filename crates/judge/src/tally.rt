@@ -72,7 +72,7 @@ fn named(x: Tally, line: &[u8]) -> Tally
 
 // The last blank line closes it.
 fn closed(x: Tally) -> Tally
-    requires { ⌜ Small x 65536 ⌝ }
+    requires { ⌜ Small x 100000 ⌝ }
     ensures { λ r. ⌜ r ≡ closedTally x ⌝ }
 {
     Tally {
@@ -101,7 +101,7 @@ fn range_value(identifier: bool, line: &[u8]) -> u64
 
 // The counts after a line that passed.
 pub fn counted(form: Form, line: &[u8], x: Tally) -> Tally
-    requires { ⌜ Small x 65536 ⌝ }
+    requires { ⌜ Small x 100000 ⌝ }
     ensures { λ r. ⌜ r ≡ countedOf form (now (line .entry)) x ⌝ }
 {
     match form {

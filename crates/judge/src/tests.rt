@@ -1,4 +1,6 @@
 // The tests of a line, from 5 to its fields, by what it turned out to be.
+use crate::sampling::Sampling;
+use crate::sampling::sample_judged;
 use crate::tally::Tally;
 use lineforms::due::Form;
 use lineforms::fields::component_fields;
@@ -14,7 +16,9 @@ use text::refusal::Judged;
 use text::refusal::Refusal;
 use text::refusal::or_else;
 ghost use mathlib.Core.Path.{_≡_};
-ghost use Rattle.judge.specs.LineTests.{roomForParameterIn, roomForSampleIn, roomForComponentIn, formTests};
+ghost use Rattle.judge.specs.LineTests.{roomForParameterIn, roomForSampleIn, roomForComponentIn, formTests, Fitting};
+ghost use Rattle.judge.specs.Sampling.{sampleIn};
+ghost use Rattle.text.specs.Refusals.{orElse};
 
 // 12: one parameter more.
 fn room_for_parameter(x: Tally) -> Judged
@@ -85,5 +89,24 @@ pub fn form_judged(form: Form, line: &[u8], x: Tally, words: &[u64], bits: &[u64
         Form::LabelLine => label_fields(line),
         Form::SourceEnd => Judged::Passes,
         Form::ParameterEnd => Judged::Passes,
+    }
+}
+
+// The same, then 14.
+pub fn line_judged(
+    form: Form,
+    line: &[u8],
+    x: Tally,
+    g: Sampling,
+    words: &[u64],
+    bits: &[u64],
+) -> Judged
+    requires { ⌜ Fitting form x g ⌝ }
+    ensures { λ r. ⌜ r ≡ orElse (formTests form x (now (words .entry)) (now (bits .entry)) (now (line .entry))) (sampleIn form (now (line .entry)) g (x .own)) ⌝ }
+{
+    let j = form_judged(form, line, x, words, bits);
+    match j {
+        Judged::Passes => sample_judged(form, line, g, x.own),
+        Judged::Refused(r) => Judged::Refused(r),
     }
 }

@@ -80,7 +80,7 @@ walk-start s out a n w x e =
 -- ---- before a line
 
 -- what the counts are at most, by what they come to
-small-before : (n : ℕ) (K G : Book) → Rises n K G → G .opened ≡ noParameter → Small (tallyOf G) 65536 → Small (tallyOf K) 65536
+small-before : (n : ℕ) (K G : Book) → Rises n K G → G .opened ≡ noParameter → Small (tallyOf G) 100000 → Small (tallyOf K) 100000
 unfolding texts
 small-before n K G r h m =
     let q = samples-all K in
@@ -186,8 +186,8 @@ module _ (s out₀ : List ℕ) (a : Starts) (n : ℕ) (out : List ℕ) (c : Curs
   pub walk-long : length out ≡ length out₀
   walk-long = ap length (w .done) ∙ laid-long out₀ a n (w .book) fits-now
 
-  pub walk-small : Small x 65536
-  walk-small = subst (λ (y : Tally). Small y 65536) (sym (w .mine)) (small-before n (w .book) (bookOf s) rises-now end-open (w .able .small))
+  pub walk-small : Small x 100000
+  walk-small = subst (λ (y : Tally). Small y 100000) (sym (w .mine)) (small-before n (w .book) (bookOf s) rises-now end-open (w .able .small))
 
   modest : Modest (tallyOf (w .book)) a
   modest =

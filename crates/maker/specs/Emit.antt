@@ -97,7 +97,7 @@ pub record Walkable (s : List ℕ) (a : Starts) (n : ℕ) (long : ℕ) : Type 0 
   pub content : Content
   pub accepted : judgeOf s ≡ Accepted content
   pub short : length s ≤ 65536
-  pub small : Small (tallyOf (bookOf s)) 65536
+  pub small : Small (tallyOf (bookOf s)) 100000
   pub fits : Fits (placesOf a) n (bookOf s) long
   pub copied : n ≡ copies (length (bookOf s .pairs)) (bookOf s .declared)
   pub near : (a .parameters ≤ 1000000) × (a .samples ≤ 1000000) × (a .components ≤ 1000000) × (a .text ≤ 1000000)

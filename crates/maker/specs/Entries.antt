@@ -32,11 +32,11 @@ totalBy s p q c t = textPartBy s p q c + t
 
 -- no place is too high for a number of the code
 pub record Few (n : Counts) : Type 0 where
-  pub subframes : n .subframes ≤ 65536
-  pub parameters : n .parameters ≤ 65536
-  pub samples : n .samples ≤ 65536
-  pub components : n .components ≤ 65536
-  pub text : n .text ≤ 65536
+  pub subframes : n .subframes ≤ 100000
+  pub parameters : n .parameters ≤ 100000
+  pub samples : n .samples ≤ 100000
+  pub components : n .components ≤ 100000
+  pub text : n .text ≤ 100000
 
 -- ---- entries
 

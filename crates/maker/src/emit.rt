@@ -60,7 +60,7 @@ fn described(x: Tally) -> Described
 
 // Each record pair is written n times.
 pub fn emit(form: Form, line: &[u8], x: Tally, a: Starts, n: usize, out: &mut [u8])
-    requires { ⌜ (Small x 65536) × Modest x a × Roomy form (now line) x a n (length (now out)) ⌝ }
+    requires { ⌜ (Small x 100000) × Modest x a × Roomy form (now line) x a n (length (now out)) ⌝ }
     ensures { λ _. ⌜ now (out .exit) ≡ emitOf form (now (line .entry)) x a n (now (out .entry)) ⌝ }
 {
     match form {

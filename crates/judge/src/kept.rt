@@ -1,0 +1,129 @@
+// What is kept of a record pair and of a parameter.
+use crate::sampling::Sampling;
+use crate::tally::Tally;
+use lineforms::due::Form;
+use lineforms::said::pair_in;
+ghost use mathlib.Core.Path.{_≡_};
+ghost use mathlib.Core.Bool.{cond};
+ghost use Prim.Native.Nat.{_^_};
+ghost use lib.Dec.{ltb};
+ghost use Rattle.judge.specs.Keeping.{wordsSaid, bitsSaid, openedBy, goodIn};
+
+// A record line's words, for another line 0.
+pub fn words_in(form: Form, line: &[u8]) -> u64
+    ensures { λ r. ⌜ r ≡ wordsSaid form (now (line .entry)) ⌝ }
+{
+    match form {
+        Form::Stray => 0,
+        Form::Superframe => 0,
+        Form::HeaderWord => 0,
+        Form::HeaderLine => 0,
+        Form::RecordWord => 0,
+        Form::RecordLine => pair_in(line).words,
+        Form::NoneWord => 0,
+        Form::ParameterWord => 0,
+        Form::NameLine => 0,
+        Form::OpeningComponent => 0,
+        Form::ComponentLine => 0,
+        Form::TimeLine => 0,
+        Form::SamplesEnd => 0,
+        Form::SignedLine => 0,
+        Form::RangeLine => 0,
+        Form::SourceLine => 0,
+        Form::LabelLine => 0,
+        Form::SourceEnd => 0,
+        Form::ParameterEnd => 0,
+    }
+}
+
+// A record line's bits per word, for another line 0.
+pub fn bits_in(form: Form, line: &[u8]) -> u64
+    ensures { λ r. ⌜ r ≡ bitsSaid form (now (line .entry)) ⌝ }
+{
+    match form {
+        Form::Stray => 0,
+        Form::Superframe => 0,
+        Form::HeaderWord => 0,
+        Form::HeaderLine => 0,
+        Form::RecordWord => 0,
+        Form::RecordLine => pair_in(line).bits,
+        Form::NoneWord => 0,
+        Form::ParameterWord => 0,
+        Form::NameLine => 0,
+        Form::OpeningComponent => 0,
+        Form::ComponentLine => 0,
+        Form::TimeLine => 0,
+        Form::SamplesEnd => 0,
+        Form::SignedLine => 0,
+        Form::RangeLine => 0,
+        Form::SourceLine => 0,
+        Form::LabelLine => 0,
+        Form::SourceEnd => 0,
+        Form::ParameterEnd => 0,
+    }
+}
+
+// How many parameters a line begins.
+pub fn opened_by(form: Form) -> usize
+    ensures { λ r. ⌜ r ≡ openedBy form ⌝ }
+{
+    match form {
+        Form::Stray => 0,
+        Form::Superframe => 0,
+        Form::HeaderWord => 0,
+        Form::HeaderLine => 0,
+        Form::RecordWord => 0,
+        Form::RecordLine => 0,
+        Form::NoneWord => 0,
+        Form::ParameterWord => 1,
+        Form::NameLine => 0,
+        Form::OpeningComponent => 0,
+        Form::ComponentLine => 0,
+        Form::TimeLine => 0,
+        Form::SamplesEnd => 0,
+        Form::SignedLine => 0,
+        Form::RangeLine => 0,
+        Form::SourceLine => 0,
+        Form::LabelLine => 0,
+        Form::SourceEnd => 0,
+        Form::ParameterEnd => 0,
+    }
+}
+
+pub fn one_if(t: bool) -> u64
+    ensures { λ r. ⌜ r ≡ cond t 1 0 ⌝ }
+{
+    if t { 1 } else { 0 }
+}
+
+// Whether a value fits so many bits: none is left of it when as many are taken away.
+fn fits(value: u64, width: u64) -> bool
+    ensures { λ r. ⌜ r ≡ ltb value (2 ^ width) ⌝ }
+{
+    let mut left = value;
+    let mut more = width;
+    while 0 < more {
+        left /= 2;
+        more -= 1;
+    }
+    left == 0
+}
+
+// Whether the open parameter is an identifier that alone is in order.
+pub fn is_good(x: Tally, g: Sampling) -> bool
+    ensures { λ r. ⌜ r ≡ goodIn x g ⌝ }
+{
+    if !x.identifier {
+        return false;
+    }
+    if x.own != 1 {
+        return false;
+    }
+    if !g.within {
+        return false;
+    }
+    if x.signed {
+        return false;
+    }
+    fits(x.value, g.first)
+}
