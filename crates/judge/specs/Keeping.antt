@@ -1,7 +1,7 @@
 -- Not part of the meaning: what the code keeps of a record pair and of a parameter.
 use Prim.Native.Nat.{ℕ, _^_}
 use mathlib.Core.List.{List, [], _∷_}
-use mathlib.Core.Bool.{Bool, cond, not, _&&_}
+use mathlib.Core.Bool.{Bool, true, false, cond, not, _&&_}
 use lib.Dec.{eqb, ltb}
 use lib.ListN.{length, getD}
 use Rattle.lay.specs.Below.{all}
@@ -14,48 +14,33 @@ use Rattle.gather.specs.Tests.{spots}
 use Rattle.judge.specs.declared.sampling.Sampling.{Sampling}
 use Rattle.judge.specs.declared.tally.Tally.{Tally}
 
--- a record line's words and bits, for another line 0
+-- only a record line says words and bits; of another line 0 is kept
+abbrev pub isRecordLine : Form → Bool
+isRecordLine Stray = false
+isRecordLine Superframe = false
+isRecordLine HeaderWord = false
+isRecordLine HeaderLine = false
+isRecordLine RecordWord = false
+isRecordLine RecordLine = true
+isRecordLine NoneWord = false
+isRecordLine ParameterWord = false
+isRecordLine NameLine = false
+isRecordLine OpeningComponent = false
+isRecordLine ComponentLine = false
+isRecordLine TimeLine = false
+isRecordLine SamplesEnd = false
+isRecordLine SignedLine = false
+isRecordLine RangeLine = false
+isRecordLine SourceLine = false
+isRecordLine LabelLine = false
+isRecordLine SourceEnd = false
+isRecordLine ParameterEnd = false
+
 abbrev pub wordsSaid : Form → List ℕ → ℕ
-wordsSaid Stray l = 0
-wordsSaid Superframe l = 0
-wordsSaid HeaderWord l = 0
-wordsSaid HeaderLine l = 0
-wordsSaid RecordWord l = 0
-wordsSaid RecordLine l = pairIn l .words
-wordsSaid NoneWord l = 0
-wordsSaid ParameterWord l = 0
-wordsSaid NameLine l = 0
-wordsSaid OpeningComponent l = 0
-wordsSaid ComponentLine l = 0
-wordsSaid TimeLine l = 0
-wordsSaid SamplesEnd l = 0
-wordsSaid SignedLine l = 0
-wordsSaid RangeLine l = 0
-wordsSaid SourceLine l = 0
-wordsSaid LabelLine l = 0
-wordsSaid SourceEnd l = 0
-wordsSaid ParameterEnd l = 0
+wordsSaid f l = cond (isRecordLine f) (pairIn l .words) 0
 
 abbrev pub bitsSaid : Form → List ℕ → ℕ
-bitsSaid Stray l = 0
-bitsSaid Superframe l = 0
-bitsSaid HeaderWord l = 0
-bitsSaid HeaderLine l = 0
-bitsSaid RecordWord l = 0
-bitsSaid RecordLine l = pairIn l .bits
-bitsSaid NoneWord l = 0
-bitsSaid ParameterWord l = 0
-bitsSaid NameLine l = 0
-bitsSaid OpeningComponent l = 0
-bitsSaid ComponentLine l = 0
-bitsSaid TimeLine l = 0
-bitsSaid SamplesEnd l = 0
-bitsSaid SignedLine l = 0
-bitsSaid RangeLine l = 0
-bitsSaid SourceLine l = 0
-bitsSaid LabelLine l = 0
-bitsSaid SourceEnd l = 0
-bitsSaid ParameterEnd l = 0
+bitsSaid f l = cond (isRecordLine f) (pairIn l .bits) 0
 
 -- how many parameters a line begins
 abbrev pub openedBy : Form → ℕ

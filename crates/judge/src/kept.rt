@@ -7,60 +7,52 @@ ghost use mathlib.Core.Path.{_≡_};
 ghost use mathlib.Core.Bool.{cond};
 ghost use Prim.Native.Nat.{_^_};
 ghost use lib.Dec.{ltb};
-ghost use Rattle.judge.specs.Keeping.{wordsSaid, bitsSaid, openedBy, goodIn};
+ghost use Rattle.judge.specs.Keeping.{isRecordLine, wordsSaid, bitsSaid, openedBy, goodIn};
+
+fn is_record_line(form: Form) -> bool
+    ensures { λ r. ⌜ r ≡ isRecordLine form ⌝ }
+{
+    match form {
+        Form::Stray => false,
+        Form::Superframe => false,
+        Form::HeaderWord => false,
+        Form::HeaderLine => false,
+        Form::RecordWord => false,
+        Form::RecordLine => true,
+        Form::NoneWord => false,
+        Form::ParameterWord => false,
+        Form::NameLine => false,
+        Form::OpeningComponent => false,
+        Form::ComponentLine => false,
+        Form::TimeLine => false,
+        Form::SamplesEnd => false,
+        Form::SignedLine => false,
+        Form::RangeLine => false,
+        Form::SourceLine => false,
+        Form::LabelLine => false,
+        Form::SourceEnd => false,
+        Form::ParameterEnd => false,
+    }
+}
 
 // A record line's words, for another line 0.
 pub fn words_in(form: Form, line: &[u8]) -> u64
     ensures { λ r. ⌜ r ≡ wordsSaid form (now (line .entry)) ⌝ }
 {
-    match form {
-        Form::Stray => 0,
-        Form::Superframe => 0,
-        Form::HeaderWord => 0,
-        Form::HeaderLine => 0,
-        Form::RecordWord => 0,
-        Form::RecordLine => pair_in(line).words,
-        Form::NoneWord => 0,
-        Form::ParameterWord => 0,
-        Form::NameLine => 0,
-        Form::OpeningComponent => 0,
-        Form::ComponentLine => 0,
-        Form::TimeLine => 0,
-        Form::SamplesEnd => 0,
-        Form::SignedLine => 0,
-        Form::RangeLine => 0,
-        Form::SourceLine => 0,
-        Form::LabelLine => 0,
-        Form::SourceEnd => 0,
-        Form::ParameterEnd => 0,
+    if is_record_line(form) {
+        return pair_in(line).words;
     }
+    0
 }
 
 // A record line's bits per word, for another line 0.
 pub fn bits_in(form: Form, line: &[u8]) -> u64
     ensures { λ r. ⌜ r ≡ bitsSaid form (now (line .entry)) ⌝ }
 {
-    match form {
-        Form::Stray => 0,
-        Form::Superframe => 0,
-        Form::HeaderWord => 0,
-        Form::HeaderLine => 0,
-        Form::RecordWord => 0,
-        Form::RecordLine => pair_in(line).bits,
-        Form::NoneWord => 0,
-        Form::ParameterWord => 0,
-        Form::NameLine => 0,
-        Form::OpeningComponent => 0,
-        Form::ComponentLine => 0,
-        Form::TimeLine => 0,
-        Form::SamplesEnd => 0,
-        Form::SignedLine => 0,
-        Form::RangeLine => 0,
-        Form::SourceLine => 0,
-        Form::LabelLine => 0,
-        Form::SourceEnd => 0,
-        Form::ParameterEnd => 0,
+    if is_record_line(form) {
+        return pair_in(line).bits;
     }
+    0
 }
 
 // How many parameters a line begins.
