@@ -7,3 +7,5 @@ pub mod Room
 pub mod Writing
 pub mod Making
 pub mod Ended
+pub mod Accepted
+pub mod Makings

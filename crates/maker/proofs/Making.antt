@@ -21,7 +21,7 @@ use Rattle.laying.proofs.Written.{samples-listed}
 use Rattle.laying.proofs.Whole.{Placed, header-long, gathered, table-laid}
 use Rattle.maker.specs.Entries.{totalBy, headerBy, countsOf}
 use Rattle.maker.specs.Emit.{placesOf}
-use Rattle.maker.specs.Made.{countsBy, startsBy}
+use Rattle.maker.specs.Sizes.{countsBy, startsBy}
 use Rattle.maker.specs.declared.places.Counts.{Counts}
 use Rattle.maker.proofs.ByNumbers.{header-by}
 use Rattle.maker.proofs.Emitting.{samples-all, components-all, text-long, text-clear}

@@ -1,3 +1,4 @@
 pub mod Entries
 pub mod Emit
+pub mod Sizes
 pub mod Made

@@ -5,35 +5,25 @@ use mathlib.Core.Bool.{cond}
 use mathlib.Core.List.{List, _++_}
 use lib.Dec.{leb}
 use lib.ListN.{length, drop}
+use Rattle.text.specs.Refusals.{refusalNumber}
+use Rattle.text.specs.declared.refusal.Refusal.the-variants.{TableTooSmall}
 use Rattle.model.specs.Write.{write}
 use Rattle.gather.specs.Ruling.{Ruling, Accepted, Refused}
-use Rattle.judge.specs.declared.tally.Tally.{Tally}
-use Rattle.maker.specs.declared.places.Counts.{Counts}
-use Rattle.maker.specs.declared.emit.Starts.{Starts}
-use Rattle.maker.specs.Entries.{parameterPartBy, samplePartBy, componentPartBy, textPartBy}
+use Rattle.maker.specs.declared.make.Made.{Made}
+use Rattle.maker.specs.declared.make.Made.the-variants as made
+
+-- so many bytes are lent
+abbrev pub madeOf : Ruling → ℕ → Made
+madeOf (Accepted c) lent =
+    cond (leb (length (write 1 c)) lent) (made.Length (length (write 1 c))) (made.Refused TableTooSmall 0)
+madeOf (Refused q k) lent = made.Refused q k
 
 abbrev pub leftOf : Ruling → List ℕ → List ℕ
 leftOf (Accepted c) out =
     cond (leb (length (write 1 c)) (length out)) (write 1 c ++ drop (length (write 1 c)) out) out
 leftOf (Refused q k) out = out
 
--- ---- not part of the meaning: what the code counts by
-
-abbrev pub countsBy : Tally → Counts
-countsBy x =
-    record {
-      subframes = x .declared;
-      parameters = x .parameters;
-      samples = x .samples;
-      components = x .components;
-      text = x .text;
-    }
-
-abbrev pub startsBy : Counts → Starts
-startsBy n =
-    record {
-      parameters = parameterPartBy (n .subframes);
-      samples = samplePartBy (n .subframes) (n .parameters);
-      components = componentPartBy (n .subframes) (n .parameters) (n .samples);
-      text = textPartBy (n .subframes) (n .parameters) (n .samples) (n .components);
-    }
+-- 01's number of the answer: 1 to 17, or 0 for a table
+unfoldable pub madeNumber : Made → ℕ
+madeNumber (made.Length n) = 0
+madeNumber (made.Refused q k) = refusalNumber q

@@ -1,6 +1,7 @@
-// Making a location table: its entries, each at its place.
+// Making a location table from a sheet.
 pub mod copies;
 pub mod emit;
 pub mod entries;
+pub mod make;
 pub mod places;
 pub mod walk;
