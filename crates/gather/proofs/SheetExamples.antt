@@ -75,6 +75,18 @@ noneLines = changed 4 pairLine (take 4 wallLines) ++ (noneWord ∷ [])
 abbrev noneContent : Content
 noneContent = record { sequential = true; subframes = wall .subframes; parameters = [] }
 
+-- the same with 12,4,,, and a duration in seconds, and what it says
+abbrev lastingLines : List ℕ → List (List ℕ)
+lastingLines d = changed 4 (49 ∷ 50 ∷ 44 ∷ 52 ∷ 44 ∷ 44 ∷ 44 ∷ d) noneLines
+
+abbrev lastingContent : ℕ → ℕ → Content
+lastingContent top bottom =
+    record {
+      sequential = true;
+      subframes = record { bits = 12; words = 4; leading = 0; trailing = 0; numerator = top; denominator = bottom } ∷ [];
+      parameters = [];
+    }
+
 -- 2.0,A,TypeX,,,001,,,True,,,S,, by the digit S
 abbrev headerFor : ℕ → List ℕ
 headerFor s = 50 ∷ 46 ∷ 48 ∷ 44 ∷ 65 ∷ 44 ∷ 84 ∷ 121 ∷ 112 ∷ 101 ∷ 88 ∷ 44 ∷ 44 ∷ 44 ∷ 48 ∷ 48 ∷ 49 ∷ 44 ∷ 44 ∷ 44 ∷ 84 ∷ 114 ∷ 117 ∷ 101 ∷ 44 ∷ 44 ∷ 44 ∷ s ∷ 44 ∷ 44 ∷ []
@@ -204,8 +216,18 @@ identifiers =
     ∷ rules (changing 2 (headerFor 50)) (Refused BadIdentifiers 0)
     ∷ []
 
+-- seconds
+abbrev pub durations : List Case
+durations =
+    -- 2 1/6 and 0.25
+    rules (sheetOf (lastingLines (50 ∷ 32 ∷ 49 ∷ 47 ∷ 54 ∷ []))) (Accepted (lastingContent 13 6))
+    ∷ rules (sheetOf (lastingLines (48 ∷ 46 ∷ 50 ∷ 53 ∷ []))) (Accepted (lastingContent 1 4))
+    -- 1/0
+    ∷ rules (sheetOf (lastingLines (49 ∷ 47 ∷ 48 ∷ []))) (Refused OutsideLimit 4)
+    ∷ []
+
 abbrev pub cases : List Case
-cases = ends ++ (orders ++ (samples ++ identifiers))
+cases = ends ++ (orders ++ (samples ++ (identifiers ++ durations)))
 
 joined-again : sheetOf wallLines ≡ wallSheet
 unfolding linesOf
@@ -234,5 +256,9 @@ identifiers-hold : AllHold identifiers
 unfolding same every gcdIn gcd lowestTerms clash clashAny twice width before position first trimStart trimEnd trim indexOf countOf holds upTo past blankLine fieldCount pieceOf fieldOf keywordOf allClean linesOf lineJudged allDigits digitsUpTo placeOf places number isMarked textJudged versionJudged emptyJudged saysTrue saysFalse truthJudged truthOf truthOrEmptyJudged integerJudged integerOf declaredJudged declaredOf overlapJudged marginOf labelJudged labelOf millionths decimalJudged decimalOf delayJudged lowBit highBit bitsJudged bitsOf componentBitsJudged componentBitsOf sourceBitsJudged isFraction isSeconds fractionOf badFraction topOf bottomOf secondsJudged secondsOf wordForm countForm eitherForm openingForm afterSampleForm formOf pairIndex declaredFor rangeJudged wordCounts piece pieces widthOf namedApart identifierOk identifiedApart identifies taken spread samplesOf componentsOf allComponentsOf wordsOf bitsOfPairs roomForParameter roomForSample roomForComponent spots joinedTest widthTest apartFrom firstBad identified run judgeOf
 identifiers-hold = (refl, (refl, (refl, (refl, (refl, (refl, (refl, tt)))))))
 
+durations-hold : AllHold durations
+unfolding same every gcdIn gcd lowestTerms clash clashAny twice width before position first trimStart trimEnd trim indexOf countOf holds upTo past blankLine fieldCount pieceOf fieldOf keywordOf allClean linesOf lineJudged allDigits digitsUpTo placeOf places number isMarked textJudged versionJudged emptyJudged saysTrue saysFalse truthJudged truthOf truthOrEmptyJudged integerJudged integerOf declaredJudged declaredOf overlapJudged marginOf labelJudged labelOf millionths decimalJudged decimalOf delayJudged lowBit highBit bitsJudged bitsOf componentBitsJudged componentBitsOf sourceBitsJudged isFraction isSeconds fractionOf badFraction topOf bottomOf secondsJudged secondsOf wordForm countForm eitherForm openingForm afterSampleForm formOf pairIndex declaredFor rangeJudged wordCounts piece pieces widthOf namedApart identifierOk identifiedApart identifies taken spread samplesOf componentsOf allComponentsOf wordsOf bitsOfPairs roomForParameter roomForSample roomForComponent spots joinedTest widthTest apartFrom firstBad identified run judgeOf
+durations-hold = (refl, (refl, (refl, tt)))
+
 pub examples : AllHold cases
-examples = both-hold ends (orders ++ (samples ++ identifiers)) ends-hold (both-hold orders (samples ++ identifiers) orders-hold (both-hold samples identifiers samples-hold identifiers-hold))
+examples = both-hold ends (orders ++ (samples ++ (identifiers ++ durations))) ends-hold (both-hold orders (samples ++ (identifiers ++ durations)) orders-hold (both-hold samples (identifiers ++ durations) samples-hold (both-hold identifiers durations identifiers-hold durations-hold)))
