@@ -9,3 +9,4 @@ pub mod Making
 pub mod Ended
 pub mod Accepted
 pub mod Makings
+pub mod MadeTables
