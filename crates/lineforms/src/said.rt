@@ -2,10 +2,10 @@
 use spell::answers::Bits;
 use spell::answers::Seconds;
 use spell::answers::amount;
-use spell::bits::component_bits;
 use spell::decimals::decimal;
 use spell::integers::integer;
 use spell::integers::margin;
+use spell::ranges::component_bits;
 use spell::seconds::seconds;
 use spell::truths::says_true;
 use text::field::field_of;

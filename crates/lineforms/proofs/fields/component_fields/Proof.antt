@@ -11,7 +11,7 @@ use Rattle.lineforms.proofs.fields.declared_for.Reads as declared-for-r
 use Rattle.lineforms.proofs.said.subframe_in.Reads as subframe-in-reads
 use Rattle.spell.proofs.answers.bits_judged.Reads as bits-judged-reads
 use Rattle.spell.proofs.answers.number_judged.Reads as number-judged-reads
-use Rattle.spell.proofs.bits.component_bits.Reads as component-bits-reads
+use Rattle.spell.proofs.ranges.component_bits.Reads as component-bits-reads
 use Rattle.spell.proofs.integers.declared.Reads as declared-reads
 use Rattle.spell.proofs.integers.overlap.Reads as overlap-reads
 use Rattle.text.proofs.field.field_of.Reads as field-of-reads

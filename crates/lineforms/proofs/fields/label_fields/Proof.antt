@@ -9,7 +9,7 @@ use Rattle.lineforms.proofs.fields.label_fields.Reads as reads
 use Rattle.lineforms.proofs.fields.label_fields.Lts as lts
 use Rattle.lineforms.proofs.fields.text_at.Reads as text-at-reads
 use Rattle.spell.proofs.answers.number_judged.Reads as number-judged-reads
-use Rattle.spell.proofs.bits.source_bits.Reads as source-bits-reads
+use Rattle.spell.proofs.ranges.source_bits.Reads as source-bits-reads
 use Rattle.spell.proofs.integers.label.Reads as label-reads
 use Rattle.spell.proofs.truths.truth_or_empty.Reads as truth-or-empty-reads
 use Rattle.text.proofs.field.field_of.Reads as field-of-reads

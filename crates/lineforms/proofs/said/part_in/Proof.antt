@@ -8,7 +8,7 @@ use Rattle.lineforms.proofs.said.high_of.Reads as high-of-reads
 use Rattle.lineforms.proofs.said.low_of.Reads as low-of-reads
 use Rattle.lineforms.proofs.said.subframe_in.Reads as subframe-in-reads
 use Rattle.spell.proofs.answers.amount.Reads as amount-reads
-use Rattle.spell.proofs.bits.component_bits.Reads as component-bits-reads
+use Rattle.spell.proofs.ranges.component_bits.Reads as component-bits-reads
 use Rattle.spell.proofs.integers.integer.Reads as integer-reads
 use Rattle.text.proofs.field.field_of.Reads as field-of-reads
 
