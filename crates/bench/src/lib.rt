@@ -1,0 +1,4 @@
+// The bench: what the bureau's desk calls, and nothing else. Every call answers for every input.
+pub mod frames;
+pub mod sheets;
+pub mod tables;
