@@ -2,9 +2,9 @@
 use mathlib.Core.Path.{_≡_, sym, ap, ap₂, _∙_}
 use mathlib.Core.Bool.{Bool, true, cond}
 use mathlib.Core.List.{List, _∷_}
-use Prim.Native.Nat.{ℕ, _+_, _-_, _≤_}
+use Prim.Native.Nat.{ℕ, _+_, _-_, _≤_, _<_}
 use native.Mathlib.Omega.{arith}
-use lib.ListN.{length, take, drop, set, length-take}
+use lib.ListN.{length, take, drop, set, getD, length-take}
 use Rattle.text.specs.Refusals.{first, orElse}
 use Rattle.text.specs.declared.refusal.Refusal.{Refusal}
 use Rattle.text.specs.declared.refusal.Judged.{Judged}
@@ -15,34 +15,36 @@ use Rattle.lines.specs.Order.{lineJudged}
 use Rattle.lines.specs.declared.Cursor.{Cursor}
 use Rattle.lines.proofs.Cuts.{headJudged, Next}
 use Rattle.lineforms.specs.Forms.{formOf, dueAfter}
-use Rattle.lineforms.specs.declared.due.Due.{Due}
 use Rattle.lineforms.specs.declared.due.Form.{Form}
 use Rattle.lineforms.specs.declared.due.Form.the-variants as form
 use Rattle.model.specs.Content.{Parameter}
-use Rattle.gather.specs.Book.{Book, grow}
+use Rattle.gather.specs.Book.{Book, grow, wordsOf, bitsOf}
 use Rattle.gather.specs.Tests.{dueTest, roomTest, fieldTests, sampleTest, namesTest, testsOf}
 use Rattle.gather.specs.Ruling.{formAt, opens as opensOf}
 use Rattle.gather.proofs.Sound.{Sound, Told}
 use Rattle.gather.proofs.Tellings.{told}
 use Rattle.gather.proofs.Steps.{sound-step}
 use Rattle.judge.specs.Counts.{tallyOf, countedOf}
-use Rattle.judge.specs.Keeping.{row, flagOf, isGood, goodOf, homeOf, goodIn, wordsSaid, bitsSaid, openedBy}
+use Rattle.judge.specs.Columns.{column, rowSet, pairRow, textRow, numberRow}
+use Rattle.judge.specs.Keeping.{row, flagOf, isGood, goodOf, homeOf, goodIn}
 use Rattle.judge.specs.LineTests.{formTests, Fitting}
-use Rattle.judge.specs.Names.{textsAt, namesIn, placesAfter}
-use Rattle.judge.specs.Sampling.{sampleIn, Apt, After}
-use Rattle.judge.specs.declared.names.Places.{Places}
+use Rattle.judge.specs.Names.{textAt, textsAt, textsIn, namesIn}
+use Rattle.judge.specs.Sampling.{sampleIn, Apt}
+use Rattle.judge.specs.Turns.{formHere, judgedIn, Steady, Gone}
 use Rattle.judge.specs.declared.sampling.Sampling.{Sampling}
 use Rattle.judge.specs.declared.tally.Tally.{Tally}
+use Rattle.judge.specs.declared.turn.State.{State}
 use Rattle.judge.specs.declared.walk.Verdict.the-variants as verdict
+use Rattle.judge.proofs.ColumnLaws.{first-rows, row-length, begins, row-column}
 use Rattle.judge.proofs.Growing.{Fresh, tally-grow}
 use Rattle.judge.proofs.TestLaws.{tests-gathered}
 use Rattle.judge.proofs.FittingLaws.{else-0, fitting-apt}
-use Rattle.judge.proofs.Arrays.{numbered-step, texted-step, paired-step, marked-step}
+use Rattle.judge.proofs.Arrays.{Numbered, Texted, Paired, numbered-step, texted-step, paired-step, marked-step}
 use Rattle.judge.proofs.Standing.{Held, held, stands-step}
 use Rattle.judge.proofs.Sampled.{Sampled, sampled-step, sample-is, fitting}
 use Rattle.judge.proofs.Apart.{names-is, here-step}
 use Rattle.judge.proofs.Runs.{answer, line-tests, answer-passes, answer-refused, answerOf}
-use Rattle.judge.proofs.Judging.{Judging, judging-few}
+use Rattle.judge.proofs.Judging.{Judging, judging-few, judging-pairs, judging-parameters, judging-marks, judging-small}
 
 -- where a parameter opens, none is open
 fresh : (f : Form) (K : Book) (os : List ℕ) → Held f K os → Fresh f K
@@ -76,133 +78,159 @@ good-kept : (K : Book) (g : Sampling) → Sampled g K → goodIn (tallyOf K) g �
 unfolding goodIn isGood
 good-kept K g h = rw (h .whole .within, h .whole .first)
 
-module _ {s ws bs na ne ma me ia ie fs gs hs vs ks : List ℕ} {n : ℕ} {c : Cursor} {d : Due} {x : Tally} {g : Sampling} {h : Places} (w : Judging s ws bs na ne ma me ia ie fs gs hs vs ks n c d x g h)
-    {st en : ℕ} {nx : Cursor} (k : Next s c st en nx) {l : List ℕ} (p : l ≡ take (en - st) (drop st s)) {f : Form} (e : f ≡ formOf d (x .pairs) (x .declared) l) where
+module _ {s ps ts ns ks : List ℕ} {c : Cursor} {t : State} (w : Judging s ps ts ns ks c t) (l : List ℕ) {f : Form} (e : f ≡ formHere t l) where
   abbrev K : Book
   K = w .book
 
-  same-form : f ≡ formAt d K l
-  same-form = e ∙ ap (λ (y : Tally). formOf d (y .pairs) (y .declared) l) (w .mine)
+  same-form : f ≡ formAt (t .due) K l
+  same-form = e ∙ ap (λ (y : Tally). formOf (t .due) (y .pairs) (y .declared) l) (w .mine)
 
   now-told : Told f K
-  now-told = rw same-form (told K l d (w .sound))
+  now-told = rw same-form (told K l (t .due) (w .sound))
 
   now-held : Held f K (w .opens)
-  now-held = rw same-form (held d K (w .opens) l (w .stands))
+  now-held = rw same-form (held (t .due) K (w .opens) l (w .stands))
 
-  pub judging-fitting : Fitting f x g
-  judging-fitting = rw (w .mine) (fitting f K g now-told (w .sampled))
+  pub judging-fitting : Fitting f (t .counts) (t .sample)
+  judging-fitting = rw (w .mine) (fitting f K (t .sample) now-told (w .sampled))
 
-  own-is : x .own ≡ length (K .opened .samples)
+  own-is : t .counts .own ≡ length (K .opened .samples)
   own-is = ap (λ (y : Tally). y .own) (w .mine)
 
-  parts-is : x .parts ≡ length (K .parts)
+  parts-is : t .counts .parts ≡ length (K .parts)
   parts-is = ap (λ (y : Tally). y .parts) (w .mine)
 
-  pairs-is : x .pairs ≡ length (K .pairs)
+  pairs-is : t .counts .pairs ≡ length (K .pairs)
   pairs-is = ap (λ (y : Tally). y .pairs) (w .mine)
 
-  parameters-is : x .parameters ≡ length (K .parameters)
+  parameters-is : t .counts .parameters ≡ length (K .parameters)
   parameters-is = ap (λ (y : Tally). y .parameters) (w .mine)
 
-  cut : linesOf (drop (c .at) s) ≡ line l (linesOf (drop (nx .at) s))
-  cut = k .cut ∙ ap (λ (t : List ℕ). line t (linesOf (drop (nx .at) s))) (sym p)
+  pair-rows : (a : ℕ) → take (t .counts .pairs) (drop a ps) ≡ take (length (K .pairs)) (column 33 a ps)
+  pair-rows a = first-rows 33 a ps (t .counts .pairs) (length (K .pairs)) pairs-is (omega (arith, judging-pairs w))
 
-  pub judging-place : (st ≤ 65536) × (length l ≤ 65536)
-  judging-place =
-      let m : length l ≤ en - st = rw p (omega (arith, length-take (en - st) (drop st s))) in
-      (omega (arith, k .ordered, k .ends, k .ready .inside, k .ready .short), omega (arith, k .ends, k .ready .inside, k .ready .short))
+  text-rows : (a : ℕ) → take (t .counts .parameters) (drop a ts) ≡ take (length (K .parameters)) (column 513 a ts)
+  text-rows a = first-rows 513 a ts (t .counts .parameters) (length (K .parameters)) parameters-is (omega (arith, judging-parameters w))
 
-  form-is : formTests f x (take (x .pairs) ws) (take (x .pairs) bs) l ≡ first (dueTest f ∷ roomTest f K ∷ fieldTests f K l)
+  form-is : formTests f (t .counts) (take (t .counts .pairs) ps) (take (t .counts .pairs) (drop 33 ps)) l ≡ first (dueTest f ∷ roomTest f K ∷ fieldTests f K l)
   form-is =
-      ap (λ (y : Tally). formTests f y (take (y .pairs) ws) (take (y .pairs) bs) l) (w .mine)
-      ∙ (ap₂ (λ (a b : List ℕ). formTests f (tallyOf K) a b l) (w .paired .words) (w .paired .bits) ∙ tests-gathered f l K)
+      ap₂ (λ (a b : List ℕ). formTests f (t .counts) a b l) (pair-rows 0 ∙ w .paired .words) (pair-rows 33 ∙ w .paired .bits)
+      ∙ (ap (λ (y : Tally). formTests f y (wordsOf (K .pairs)) (bitsOf (K .pairs)) l) (w .mine) ∙ tests-gathered f l K)
 
-  texts-is : namesIn f (textsAt s (take (x .parameters) na) (take (x .parameters) ne)) (textsAt s (take (x .parameters) ma) (take (x .parameters) me)) (textsAt s (take (x .parameters) ia) (take (x .parameters) ie)) l ≡ namesTest f K l
+  kept-texts : (F : Parameter → List ℕ) (a b : ℕ) → Texted s F (K .parameters) (column 513 a ts) (column 513 b ts)
+      → textsAt s (take (t .counts .parameters) (drop a ts)) (take (t .counts .parameters) (drop b ts)) ≡ row F (K .parameters)
+  kept-texts F a b h = ap₂ (textsAt s) (text-rows a) (text-rows b) ∙ h .kept
+
+  texts-is : namesIn f (textsIn s 0 (t .counts .parameters) ts) (textsIn s 1026 (t .counts .parameters) ts) (textsIn s 2052 (t .counts .parameters) ts) l ≡ namesTest f K l
   texts-is =
-      let ps = K .parameters in
-      ap (λ (m : ℕ). namesIn f (textsAt s (take m na) (take m ne)) (textsAt s (take m ma) (take m me)) (textsAt s (take m ia) (take m ie)) l) parameters-is
-      ∙ (ap₂ (λ (a b : List (List ℕ)). namesIn f a b (textsAt s (take (length ps) ia) (take (length ps) ie)) l) (w .names .kept) (w .mnemonics .kept)
-      ∙ (ap (λ (a : List (List ℕ)). namesIn f (row (λ p. p .name) ps) (row (λ p. p .mnemonic) ps) a l) (w .identifications .kept) ∙ names-is f l K))
+      ap₂ (λ (a b : List (List ℕ)). namesIn f a b (textsIn s 2052 (t .counts .parameters) ts) l) (kept-texts (λ p. p .name) 0 513 (w .names)) (kept-texts (λ p. p .mnemonic) 1026 1539 (w .mnemonics))
+      ∙ (ap (λ (a : List (List ℕ)). namesIn f (row (λ p. p .name) (K .parameters)) (row (λ p. p .mnemonic) (K .parameters)) a l) (kept-texts (λ p. p .identification) 2052 2565 (w .identifications))
+      ∙ names-is f l K)
 
-  module _ {u m j : Judged} (eu : u ≡ orElse (formTests f x (take (x .pairs) ws) (take (x .pairs) bs) l) (sampleIn f l g (x .own)))
-      (em : m ≡ namesIn f (textsAt s (take (x .parameters) na) (take (x .parameters) ne)) (textsAt s (take (x .parameters) ma) (take (x .parameters) me)) (textsAt s (take (x .parameters) ia) (take (x .parameters) ie)) l)
-      (ej : j ≡ orElse u m) where
-    judged-is : lineJudged true l (testsOf f K l) ≡ j
+  tests-are : judgedIn f s l t ps ts ≡ orElse (orElse (first (dueTest f ∷ roomTest f K ∷ fieldTests f K l)) (sampleTest f K l)) (namesTest f K l)
+  unfolding judgedIn
+  tests-are = ap₂ orElse (ap₂ orElse form-is (sample-is f l K (t .sample) (t .counts .own) own-is (w .sampled))) texts-is
+
+  passed-apt : judgedIn f s l t ps ts ≡ judged.Passes → Apt f (t .sample)
+  unfolding judgedIn
+  passed-apt r =
+      let a = formTests f (t .counts) (take (t .counts .pairs) ps) (take (t .counts .pairs) (drop 33 ps)) l in
+      let b = sampleIn f l (t .sample) (t .counts .own) in
+      fitting-apt f (t .counts) (t .sample) (take (t .counts .pairs) ps) (take (t .counts .pairs) (drop 33 ps)) l judging-fitting
+      (else-0 a b (else-0 (orElse a b) (namesIn f (textsIn s 0 (t .counts .parameters) ts) (textsIn s 1026 (t .counts .parameters) ts) (textsIn s 2052 (t .counts .parameters) ts) l) r))
+
+  module _ {st en : ℕ} {nx : Cursor} (k : Next s c st en nx) (p : l ≡ take (en - st) (drop st s)) where
+    cut : linesOf (drop (c .at) s) ≡ line l (linesOf (drop (nx .at) s))
+    cut = k .cut ∙ ap (λ (m : List ℕ). line m (linesOf (drop (nx .at) s))) (sym p)
+
+    judged-is : lineJudged true l (testsOf f K l) ≡ judgedIn f s l t ps ts
     judged-is =
-        let a = eu ∙ ap₂ orElse form-is (sample-is f l K g (x .own) own-is (w .sampled)) in
-        let b = em ∙ texts-is in
         line-tests l f K
         ∙ (ap (λ (i : Judged). orElse i (orElse (orElse (first (dueTest f ∷ roomTest f K ∷ fieldTests f K l)) (sampleTest f K l)) (namesTest f K l))) (raw-passes (linesOf (drop (c .at) s)) l (linesOf (drop (nx .at) s)) cut (k .passes))
-        ∙ sym (ej ∙ ap₂ orElse a b))
+        ∙ sym tests-are)
 
-    judged-at : lineJudged true l (testsOf (formAt d K l) K l) ≡ j
+    judged-at : lineJudged true l (testsOf (formAt (t .due) K l) K l) ≡ judgedIn f s l t ps ts
     judged-at = ap (λ (i : Form). lineJudged true l (testsOf i K l)) (sym same-form) ∙ judged-is
 
-    says-line : answer d K (w .opens) (c .number) (line l (linesOf (drop (nx .at) s))) ≡ answerOf s
-    says-line = ap (answer d K (w .opens) (c .number)) (sym cut) ∙ w .says
+    says-line : answer (t .due) K (w .opens) (c .number) (line l (linesOf (drop (nx .at) s))) ≡ answerOf s
+    says-line = ap (answer (t .due) K (w .opens) (c .number)) (sym cut) ∙ w .says
 
-    pub judging-refused : (q : Refusal) → j ≡ judged.Refused q → verdict.Refused q (c .number + 1) ≡ answerOf s
-    judging-refused q r = sym (answer-refused d K (w .opens) (c .number) l (linesOf (drop (nx .at) s)) q (judged-at ∙ r)) ∙ says-line
+    pub judging-refused : (q : Refusal) → judgedIn f s l t ps ts ≡ judged.Refused q → verdict.Refused q (c .number + 1) ≡ answerOf s
+    judging-refused q r = sym (answer-refused (t .due) K (w .opens) (c .number) l (linesOf (drop (nx .at) s)) q (judged-at ∙ r)) ∙ says-line
 
-    module _ (r : j ≡ judged.Passes) where
-      pub judging-apt : Apt f g
-      judging-apt =
-          fitting-apt f x g (take (x .pairs) ws) (take (x .pairs) bs) l judging-fitting
-          (else-0 (formTests f x (take (x .pairs) ws) (take (x .pairs) bs) l) (sampleIn f l g (x .own)) (sym eu ∙ else-0 u m (sym ej ∙ r)))
+    module _ (r : judgedIn f s l t ps ts ≡ judged.Passes) where
+      pub judging-steady : Steady f l st t
+      judging-steady =
+          let m : length l ≤ en - st = rw p (omega (arith, length-take (en - st) (drop st s))) in
+          record {
+            apt = passed-apt r;
+            small = judging-small w;
+            begun = judging-marks w;
+            place = omega (arith, k .ordered, k .ends, k .ready .inside, k .ready .short);
+            long = omega (arith, k .ends, k .ready .inside, k .ready .short);
+          }
 
       sound-now : Sound (dueAfter f) (grow f l K)
-      sound-now = rw same-form (sound-step d K l (w .sound) (judged-at ∙ r))
+      sound-now = rw same-form (sound-step (t .due) K l (w .sound) (judged-at ∙ r))
 
       says-now : answer (dueAfter f) (grow f l K) (opensOf f (c .number + 1) (w .opens)) (nx .number) (linesOf (drop (nx .at) s)) ≡ answerOf s
-      says-now = rw (k .counts, same-form) (sym (answer-passes d K (w .opens) (c .number) l (linesOf (drop (nx .at) s)) (judged-at ∙ r)) ∙ says-line)
+      says-now = rw (k .counts, same-form) (sym (answer-passes (t .due) K (w .opens) (c .number) l (linesOf (drop (nx .at) s)) (judged-at ∙ r)) ∙ says-line)
 
-      good-is : goodIn x g ≡ isGood (K .opened)
-      good-is = ap (λ (y : Tally). goodIn y g) (w .mine) ∙ good-kept K g (w .sampled)
-
-      flag-here : cond (x .identifier) 1 0 ≡ flagOf (K .opened)
+      flag-here : cond (t .counts .identifier) 1 0 ≡ flagOf (K .opened)
       unfolding flagOf
       flag-here = ap (λ (y : Tally). cond (y .identifier) 1 0) (w .mine)
 
-      good-here : cond (goodIn x g) 1 0 ≡ goodOf (K .opened)
+      good-here : cond (goodIn (t .counts) (t .sample)) 1 0 ≡ goodOf (K .opened)
       unfolding goodOf
-      good-here = ap (λ (t : Bool). cond t 1 0) good-is
+      good-here = ap (λ (b : Bool). cond b 1 0) (ap (λ (y : Tally). goodIn y (t .sample)) (w .mine) ∙ good-kept K (t .sample) (w .sampled))
 
-      home-here : g .lies ≡ homeOf (K .opened)
+      home-here : t .sample .lies ≡ homeOf (K .opened)
       unfolding homeOf
       home-here = w .sampled .whole .lies
 
-      next-at : {q pn : ℕ} → q ≡ length (K .pairs) → pn ≡ length (K .parameters) → {wn bn fn gn : ℕ} {t : Bool} → wn ≡ wordsSaid f l → bn ≡ bitsSaid f l → fn ≡ cond (x .identifier) 1 0 → t ≡ goodIn x g → gn ≡ cond t 1 0
-          → {o : ℕ} → o ≡ openedBy f → {h′ : Places} → h′ ≡ placesAfter f l st h → {g′ : Sampling} → After f l g (x .parts) (x .own) g′ → {x′ : Tally} → x′ ≡ countedOf f l x → {d′ : Due} → d′ ≡ dueAfter f
-          → Judging s (set ws q wn) (set bs q bn) (set na pn (h .name .start)) (set ne pn (h .name .end)) (set ma pn (h .mnemonic .start)) (set me pn (h .mnemonic .end)) (set ia pn (h .identification .start)) (set ie pn (h .identification .end))
-          (set fs pn fn) (set gs pn gn) (set hs pn (g .lies)) (set vs pn (x .value)) (set ks n (c .number + 1)) (n + o) nx d′ x′ g′ h′
-      next-at {q} {pn} eq ep {wn} {bn} {fn} {gn} {t} ew eb ef et eg {o} eo {h′} eh {g′} ea {x′} ex {d′} ed =
-          let z = judging-few w in
+      -- a row behind the pairs, or behind the parameters
+      pair-stored : (vs : List ℕ) (i : ℕ) → i < length vs → column 33 (begins 33 0 i) (rowSet 33 0 (t .counts .pairs) vs ps) ≡ set (column 33 (begins 33 0 i) ps) (length (K .pairs)) (getD vs i 0)
+      pair-stored vs i h = row-column 33 (t .counts .pairs) (omega (arith, judging-pairs w)) vs 0 ps i h ∙ ap (λ (q : ℕ). set (column 33 (begins 33 0 i) ps) q (getD vs i 0)) pairs-is
+
+      stored : (xs vs : List ℕ) (i : ℕ) → i < length vs → column 513 (begins 513 0 i) (rowSet 513 0 (t .counts .parameters) vs xs) ≡ set (column 513 (begins 513 0 i) xs) (length (K .parameters)) (getD vs i 0)
+      stored xs vs i h = row-column 513 (t .counts .parameters) (omega (arith, judging-parameters w)) vs 0 xs i h ∙ ap (λ (q : ℕ). set (column 513 (begins 513 0 i) xs) q (getD vs i 0)) parameters-is
+
+      number-kept : (F : Parameter → ℕ) (i : ℕ) → i < 4 → Numbered F (K .parameters) (column 513 (begins 513 0 i) ns) → getD (numberRow (t .counts) (t .sample)) i 0 ≡ F (K .opened)
+          → Numbered F (grow f l K .parameters) (column 513 (begins 513 0 i) (rowSet 513 0 (t .counts .parameters) (numberRow (t .counts) (t .sample)) ns))
+      number-kept F i h n q = rw (stored ns (numberRow (t .counts) (t .sample)) i h) (numbered-step f l K F (column 513 (begins 513 0 i) ns) _ n (judging-few w .parameters) q)
+
+      text-kept : (F : Parameter → List ℕ) (i j : ℕ) → i < 6 → j < 6 → Texted s F (K .parameters) (column 513 (begins 513 0 i) ts) (column 513 (begins 513 0 j) ts) → textAt s (getD (textRow (t .here)) i 0) (getD (textRow (t .here)) j 0) ≡ F (K .opened)
+          → Texted s F (grow f l K .parameters) (column 513 (begins 513 0 i) (rowSet 513 0 (t .counts .parameters) (textRow (t .here)) ts)) (column 513 (begins 513 0 j) (rowSet 513 0 (t .counts .parameters) (textRow (t .here)) ts))
+      text-kept F i j h m n q = rw (stored ts (textRow (t .here)) i h, stored ts (textRow (t .here)) j m) (texted-step f l K s F (column 513 (begins 513 0 i) ts) (column 513 (begins 513 0 j) ts) _ _ n (judging-few w .parameters) q)
+
+      pair-kept : Paired (grow f l K .pairs) (column 33 0 (rowSet 33 0 (t .counts .pairs) (pairRow f l) ps)) (column 33 33 (rowSet 33 0 (t .counts .pairs) (pairRow f l) ps))
+      pair-kept = rw (pair-stored (pairRow f l) 0 (omega arith), pair-stored (pairRow f l) 1 (omega arith)) (paired-step f l K (column 33 0 ps) (column 33 33 ps) (w .paired) (judging-few w .pairs))
+
+      pub judging-next : {qs us ms : List ℕ} {r′ : State} → qs ≡ rowSet 33 0 (t .counts .pairs) (pairRow f l) ps → us ≡ rowSet 513 0 (t .counts .parameters) (textRow (t .here)) ts → ms ≡ rowSet 513 0 (t .counts .parameters) (numberRow (t .counts) (t .sample)) ns → Gone f l st t r′
+          → Judging s qs us ms (set ks (t .begun) (c .number + 1)) nx r′
+      judging-next {qs} {us} {ms} {r′} eq eu em g =
           let inside : st + (en - st) ≤ length s = omega (arith, k .ordered, k .ends, k .ready .inside) in
-          rw (ed, eo, eh, ew, eb, eq, ep)
+          rw (eq, eu, em)
           (record {
             book = grow f l K;
             opens = opensOf f (c .number + 1) (w .opens);
             ready = k .ready;
-            mine = ex ∙ (ap (countedOf f l) (w .mine) ∙ tally-grow f l K (fresh f K (w .opens) now-held));
-            sound = sound-now;
-            stands = stands-step f K (w .opens) l (c .number + 1) now-held now-told (judged-is ∙ r) sound-now;
-            says = says-now;
-            paired = paired-step f l K ws bs (w .paired) (z .pairs);
-            names = texted-step f l K s (λ p. p .name) na ne (h .name .start) (h .name .end) (w .names) (z .parameters) (w .here .name);
-            mnemonics = texted-step f l K s (λ p. p .mnemonic) ma me (h .mnemonic .start) (h .mnemonic .end) (w .mnemonics) (z .parameters) (w .here .mnemonic);
-            identifications = texted-step f l K s (λ p. p .identification) ia ie (h .identification .start) (h .identification .end) (w .identifications) (z .parameters) (w .here .identification);
-            here = here-step f l K s st (en - st) h p inside (w .here);
-            flags = numbered-step f l K flagOf fs fn (w .flags) (z .parameters) (ef ∙ flag-here);
-            goods = numbered-step f l K goodOf gs gn (w .goods) (z .parameters) (eg ∙ (ap (λ (b : Bool). cond b 1 0) et ∙ good-here));
-            homes = numbered-step f l K homeOf hs (g .lies) (w .homes) (z .parameters) home-here;
-            values = numbered-step f l K (λ p. p .value) vs (x .value) (w .values) (z .parameters) (ap (λ (y : Tally). y .value) (w .mine));
-            marked = marked-step f n (c .number + 1) (w .opens) ks (w .marked) (z .opens);
-            sampled = sampled-step f l K g g′ (x .parts) (x .own) parts-is own-is now-told (w .sampled) ea;
+            mine = g .counts ∙ (ap (countedOf f l) (w .mine) ∙ tally-grow f l K (fresh f K (w .opens) now-held));
+            sound = rw (g .due) sound-now;
+            stands = rw (g .due) (stands-step f K (w .opens) l (c .number + 1) now-held now-told (judged-is ∙ r) sound-now);
+            says = rw (g .due) says-now;
+            pairs = row-length 33 (t .counts .pairs) (pairRow f l) 0 ps ∙ w .pairs;
+            texts = row-length 513 (t .counts .parameters) (textRow (t .here)) 0 ts ∙ w .texts;
+            numbers = row-length 513 (t .counts .parameters) (numberRow (t .counts) (t .sample)) 0 ns ∙ w .numbers;
+            paired = pair-kept;
+            names = text-kept (λ p. p .name) 0 1 (omega arith) (omega arith) (w .names) (w .here .name);
+            mnemonics = text-kept (λ p. p .mnemonic) 2 3 (omega arith) (omega arith) (w .mnemonics) (w .here .mnemonic);
+            identifications = text-kept (λ p. p .identification) 4 5 (omega arith) (omega arith) (w .identifications) (w .here .identification);
+            here = rw (g .here) (here-step f l K s st (en - st) (t .here) p inside (w .here));
+            flags = number-kept flagOf 0 (omega arith) (w .flags) flag-here;
+            goods = number-kept goodOf 1 (omega arith) (w .goods) good-here;
+            homes = number-kept homeOf 2 (omega arith) (w .homes) home-here;
+            values = number-kept (λ p. p .value) 3 (omega arith) (w .values) (ap (λ (y : Tally). y .value) (w .mine));
+            marked = rw (g .begun) (marked-step f (t .begun) (c .number + 1) (w .opens) ks (w .marked) (judging-few w .opens));
+            sampled = sampled-step f l K (t .sample) (r′ .sample) (t .counts .parts) (t .counts .own) parts-is own-is now-told (w .sampled) (g .sample);
           })
-
-      pub judging-next : {wn bn fn gn : ℕ} {t : Bool} → wn ≡ wordsSaid f l → bn ≡ bitsSaid f l → fn ≡ cond (x .identifier) 1 0 → t ≡ goodIn x g → gn ≡ cond t 1 0
-          → {o : ℕ} → o ≡ openedBy f → {h′ : Places} → h′ ≡ placesAfter f l st h → {g′ : Sampling} → After f l g (x .parts) (x .own) g′ → {x′ : Tally} → x′ ≡ countedOf f l x → {d′ : Due} → d′ ≡ dueAfter f
-          → Judging s (set ws (x .pairs) wn) (set bs (x .pairs) bn) (set na (x .parameters) (h .name .start)) (set ne (x .parameters) (h .name .end)) (set ma (x .parameters) (h .mnemonic .start)) (set me (x .parameters) (h .mnemonic .end)) (set ia (x .parameters) (h .identification .start)) (set ie (x .parameters) (h .identification .end))
-          (set fs (x .parameters) fn) (set gs (x .parameters) gn) (set hs (x .parameters) (g .lies)) (set vs (x .parameters) (x .value)) (set ks n (c .number + 1)) (n + o) nx d′ x′ g′ h′
-      judging-next ew eb ef et eg eo eh ea ex ed = next-at pairs-is parameters-is ew eb ef et eg eo eh ea ex ed

@@ -5,6 +5,7 @@ pub mod TestLaws
 pub mod SamplingLaws
 pub mod KeptLaws
 pub mod FittingLaws
+pub mod ColumnLaws
 pub mod Arrays
 pub mod Standing
 pub mod Bounds
@@ -14,3 +15,4 @@ pub mod Runs
 pub mod Identifying
 pub mod Judging
 pub mod Judgings
+pub mod Turnings

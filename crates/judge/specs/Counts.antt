@@ -36,6 +36,46 @@ tallyOf K =
       value = K .opened .value;
     }
 
+abbrev pub declaredTally : List ℕ → Tally → Tally
+declaredTally l x =
+    record {
+      declared = subframesIn l;
+      sequential = sequentialIn l;
+      pairs = x .pairs;
+      parameters = x .parameters;
+      samples = x .samples;
+      own = x .own;
+      components = x .components;
+      parts = x .parts;
+      text = x .text;
+      name = x .name;
+      mnemonic = x .mnemonic;
+      identification = x .identification;
+      identifier = x .identifier;
+      signed = x .signed;
+      value = x .value;
+    }
+
+abbrev pub pairedTally : Tally → Tally
+pairedTally x =
+    record {
+      declared = x .declared;
+      sequential = x .sequential;
+      pairs = x .pairs + 1;
+      parameters = x .parameters;
+      samples = x .samples;
+      own = x .own;
+      components = x .components;
+      parts = x .parts;
+      text = x .text;
+      name = x .name;
+      mnemonic = x .mnemonic;
+      identification = x .identification;
+      identifier = x .identifier;
+      signed = x .signed;
+      value = x .value;
+    }
+
 abbrev pub namedTally : List ℕ → Tally → Tally
 namedTally l x =
     record {
@@ -54,6 +94,86 @@ namedTally l x =
       identifier = identifierIn l;
       signed = false;
       value = 0;
+    }
+
+abbrev pub partedTally : Tally → Tally
+partedTally x =
+    record {
+      declared = x .declared;
+      sequential = x .sequential;
+      pairs = x .pairs;
+      parameters = x .parameters;
+      samples = x .samples;
+      own = x .own;
+      components = x .components + 1;
+      parts = x .parts + 1;
+      text = x .text;
+      name = x .name;
+      mnemonic = x .mnemonic;
+      identification = x .identification;
+      identifier = x .identifier;
+      signed = x .signed;
+      value = x .value;
+    }
+
+abbrev pub timedTally : Tally → Tally
+timedTally x =
+    record {
+      declared = x .declared;
+      sequential = x .sequential;
+      pairs = x .pairs;
+      parameters = x .parameters;
+      samples = x .samples + 1;
+      own = x .own + 1;
+      components = x .components;
+      parts = 0;
+      text = x .text;
+      name = x .name;
+      mnemonic = x .mnemonic;
+      identification = x .identification;
+      identifier = x .identifier;
+      signed = x .signed;
+      value = x .value;
+    }
+
+abbrev pub signedTally : List ℕ → Tally → Tally
+signedTally l x =
+    record {
+      declared = x .declared;
+      sequential = x .sequential;
+      pairs = x .pairs;
+      parameters = x .parameters;
+      samples = x .samples;
+      own = x .own;
+      components = x .components;
+      parts = x .parts;
+      text = x .text;
+      name = x .name;
+      mnemonic = x .mnemonic;
+      identification = x .identification;
+      identifier = x .identifier;
+      signed = signedIn l;
+      value = x .value;
+    }
+
+abbrev pub rangedTally : List ℕ → Tally → Tally
+rangedTally l x =
+    record {
+      declared = x .declared;
+      sequential = x .sequential;
+      pairs = x .pairs;
+      parameters = x .parameters;
+      samples = x .samples;
+      own = x .own;
+      components = x .components;
+      parts = x .parts;
+      text = x .text;
+      name = x .name;
+      mnemonic = x .mnemonic;
+      identification = x .identification;
+      identifier = x .identifier;
+      signed = x .signed;
+      value = cond (x .identifier) (valueIn l) 0;
     }
 
 abbrev pub closedTally : Tally → Tally
@@ -81,18 +201,18 @@ abbrev pub countedOf : Form → List ℕ → Tally → Tally
 countedOf Stray l x = x
 countedOf Superframe l x = x
 countedOf HeaderWord l x = x
-countedOf HeaderLine l x = record { declared = subframesIn l; sequential = sequentialIn l; pairs = x .pairs; parameters = x .parameters; samples = x .samples; own = x .own; components = x .components; parts = x .parts; text = x .text; name = x .name; mnemonic = x .mnemonic; identification = x .identification; identifier = x .identifier; signed = x .signed; value = x .value }
+countedOf HeaderLine l x = declaredTally l x
 countedOf RecordWord l x = x
-countedOf RecordLine l x = record { declared = x .declared; sequential = x .sequential; pairs = x .pairs + 1; parameters = x .parameters; samples = x .samples; own = x .own; components = x .components; parts = x .parts; text = x .text; name = x .name; mnemonic = x .mnemonic; identification = x .identification; identifier = x .identifier; signed = x .signed; value = x .value }
+countedOf RecordLine l x = pairedTally x
 countedOf NoneWord l x = x
 countedOf ParameterWord l x = x
 countedOf NameLine l x = namedTally l x
-countedOf OpeningComponent l x = record { declared = x .declared; sequential = x .sequential; pairs = x .pairs; parameters = x .parameters; samples = x .samples; own = x .own; components = x .components + 1; parts = x .parts + 1; text = x .text; name = x .name; mnemonic = x .mnemonic; identification = x .identification; identifier = x .identifier; signed = x .signed; value = x .value }
-countedOf ComponentLine l x = record { declared = x .declared; sequential = x .sequential; pairs = x .pairs; parameters = x .parameters; samples = x .samples; own = x .own; components = x .components + 1; parts = x .parts + 1; text = x .text; name = x .name; mnemonic = x .mnemonic; identification = x .identification; identifier = x .identifier; signed = x .signed; value = x .value }
-countedOf TimeLine l x = record { declared = x .declared; sequential = x .sequential; pairs = x .pairs; parameters = x .parameters; samples = x .samples + 1; own = x .own + 1; components = x .components; parts = 0; text = x .text; name = x .name; mnemonic = x .mnemonic; identification = x .identification; identifier = x .identifier; signed = x .signed; value = x .value }
+countedOf OpeningComponent l x = partedTally x
+countedOf ComponentLine l x = partedTally x
+countedOf TimeLine l x = timedTally x
 countedOf SamplesEnd l x = x
-countedOf SignedLine l x = record { declared = x .declared; sequential = x .sequential; pairs = x .pairs; parameters = x .parameters; samples = x .samples; own = x .own; components = x .components; parts = x .parts; text = x .text; name = x .name; mnemonic = x .mnemonic; identification = x .identification; identifier = x .identifier; signed = signedIn l; value = x .value }
-countedOf RangeLine l x = record { declared = x .declared; sequential = x .sequential; pairs = x .pairs; parameters = x .parameters; samples = x .samples; own = x .own; components = x .components; parts = x .parts; text = x .text; name = x .name; mnemonic = x .mnemonic; identification = x .identification; identifier = x .identifier; signed = x .signed; value = cond (x .identifier) (valueIn l) 0 }
+countedOf SignedLine l x = signedTally l x
+countedOf RangeLine l x = rangedTally l x
 countedOf SourceLine l x = x
 countedOf LabelLine l x = x
 countedOf SourceEnd l x = x

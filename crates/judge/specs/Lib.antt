@@ -4,4 +4,6 @@ pub mod Sixteen
 pub mod LineTests
 pub mod Sampling
 pub mod Keeping
+pub mod Columns
+pub mod Turns
 pub mod Walk

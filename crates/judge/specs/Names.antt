@@ -3,7 +3,7 @@ use Prim.Native.Nat.{ℕ, _+_, _-_}
 use mathlib.Core.List.{List, [], _∷_}
 use mathlib.Core.Bool.{Bool, true, cond, not, _&&_, _||_}
 use lib.Dec.{ltb}
-use lib.ListN.{length}
+use lib.ListN.{length, take, drop}
 use Rattle.lay.specs.Bytes.{same, part}
 use Rattle.text.specs.Blanks.{isEmpty}
 use Rattle.text.specs.Fields.{fieldOf, fieldAt}
@@ -23,6 +23,10 @@ unfoldable pub textsAt : List ℕ → List ℕ → List ℕ → List (List ℕ)
 textsAt s [] ends = []
 textsAt s (a ∷ starts) [] = []
 textsAt s (a ∷ starts) (e ∷ ends) = textAt s a e ∷ textsAt s starts ends
+
+-- the first p of those whose starts stand from a on, and their ends in the column behind
+abbrev pub textsIn : List ℕ → ℕ → ℕ → List ℕ → List (List ℕ)
+textsIn s a p ts = textsAt s (take p (drop a ts)) (take p (drop (a + 513) ts))
 
 -- none of the texts is this one
 unfoldable pub unlikeAll : List (List ℕ) → List ℕ → Bool

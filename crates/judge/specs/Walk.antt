@@ -1,11 +1,12 @@
 -- Not part of the meaning: where the run over the lines ends, and the judge's answer.
-use Prim.Native.Nat.{ℕ, _+_}
+use Prim.Native.Nat.{ℕ, _+_, _≤_}
+use mathlib.Core.Path.{_≡_}
 use mathlib.Core.Bool.{Bool, true, false, cond}
 use mathlib.Core.List.{List}
 use lib.Dec.{eqb, ltb}
-use lib.ListN.{length, getD}
+use lib.ListN.{length, take, drop, getD}
 use Rattle.lay.specs.Below.{all, find}
-use Rattle.text.specs.declared.refusal.Refusal.the-variants.{BadIdentifiers}
+use Rattle.text.specs.declared.refusal.Refusal.the-variants.{Unended, BadIdentifiers}
 use Rattle.text.specs.declared.refusal.Judged.{Judged}
 use Rattle.text.specs.declared.refusal.Judged.the-variants as judged
 use Rattle.lines.specs.Lines.{Lines, none, unended, line, linesOf}
@@ -18,6 +19,7 @@ use Rattle.gather.specs.Tests.{testsOf}
 use Rattle.gather.specs.Ruling.{Ruling, Accepted, Refused, formAt}
 use Rattle.judge.specs.Sixteen.{badIn, takenIn}
 use Rattle.judge.specs.declared.tally.Tally.{Tally}
+use Rattle.judge.specs.declared.turn.State.{State}
 use Rattle.judge.specs.declared.walk.Verdict.{Verdict}
 use Rattle.judge.specs.declared.walk.Verdict.the-variants as verdict
 
@@ -66,3 +68,23 @@ identifiedIn x fs gs hs vs os =
     cond (eqb (x .parameters) 0) (verdict.Accepted x)
     (cond (ltb (find (length fs) (badIn fs gs hs vs)) (length fs)) (verdict.Refused BadIdentifiers (getD os (find (length fs) (badIn fs gs hs vs)) 0))
     (cond (all (x .declared) (λ s. takenIn fs hs (s + 1))) (verdict.Accepted x) (verdict.Refused BadIdentifiers 0)))
+
+-- after the last line, by what is kept: 4 at the line that is missing, or 16
+unfoldable pub endedIn : State → ℕ → List ℕ → List ℕ → Verdict
+endedIn t k ns os =
+    cond (mayEnd (t .due))
+    (identifiedIn (t .counts) (take (t .counts .parameters) ns) (take (t .counts .parameters) (drop 513 ns)) (take (t .counts .parameters) (drop 1026 ns)) (take (t .counts .parameters) (drop 1539 ns)) (take (t .counts .parameters) os))
+    (verdict.Refused Unended k)
+
+pub record Ended (t : State) (ns os : List ℕ) : Type 0 where
+  pub few : t .counts .parameters ≤ 512
+  pub numbers : length ns ≡ 2052
+  pub marks : length os ≡ 513
+
+-- a sheet that is not too long, and room for what is kept of it
+pub record Room (s ps ts ns os : List ℕ) : Type 0 where
+  pub short : length s ≤ 65536
+  pub pairs : length ps ≡ 66
+  pub texts : length ts ≡ 3078
+  pub numbers : length ns ≡ 2052
+  pub marks : length os ≡ 513

@@ -1,4 +1,5 @@
 // 15: names of earlier parameters, kept as places in the sheet.
+use crate::columns::places_column;
 use lay::same_text;
 use lineforms::due::Form;
 use text::field::field_at;
@@ -11,7 +12,7 @@ ghost use mathlib.Core.Bool.{not, _||_};
 ghost use Prim.Native.Nat.{_≤_};
 ghost use lib.ListN.{length};
 ghost use Rattle.text.specs.Blanks.{isEmpty};
-ghost use Rattle.judge.specs.Names.{textAt, textsAt, unlikeAll, unlikeNames, namesIn, placeIn, noPlaces, placesAfter};
+ghost use Rattle.judge.specs.Names.{textAt, textsAt, textsIn, unlikeAll, unlikeNames, namesIn, placeIn, noPlaces, placesAfter};
 ghost use Rattle.text.specs.Refusals.{when};
 ghost use Rattle.text.specs.declared.refusal.Refusal.the-variants.{Repeated};
 
@@ -54,20 +55,17 @@ pub fn unlike_or_empty(sheet: &[u8], starts: &[usize], ends: &[usize], text: &[u
     unlike(sheet, starts, ends, text)
 }
 
-// Whether a 7-field line's texts are none of these.
-fn unlike_names(
-    sheet: &[u8],
-    line: &[u8],
-    a: &[usize],
-    b: &[usize],
-    c: &[usize],
-    d: &[usize],
-    e: &[usize],
-    f: &[usize],
-) -> bool
-    requires { ⌜ (length (now a) ≡ length (now b)) × (length (now c) ≡ length (now d)) × (length (now e) ≡ length (now f)) ⌝ }
-    ensures { λ r. ⌜ r ≡ unlikeNames (textsAt (now (sheet .entry)) (now (a .entry)) (now (b .entry))) (textsAt (now (sheet .entry)) (now (c .entry)) (now (d .entry))) (textsAt (now (sheet .entry)) (now (e .entry)) (now (f .entry))) (now (line .entry)) ⌝ }
+// Whether a 7-field line's texts are none of those of the first p parameters.
+fn unlike_names(sheet: &[u8], line: &[u8], texts: &[usize], p: usize) -> bool
+    requires { ⌜ (p ≤ 512) × (length (now texts) ≡ 3078) ⌝ }
+    ensures { λ r. ⌜ r ≡ unlikeNames (textsIn (now (sheet .entry)) 0 p (now (texts .entry))) (textsIn (now (sheet .entry)) 1026 p (now (texts .entry))) (textsIn (now (sheet .entry)) 2052 p (now (texts .entry))) (now (line .entry)) ⌝ }
 {
+    let a = places_column(texts, 0, p);
+    let b = places_column(texts, 513, p);
+    let c = places_column(texts, 1026, p);
+    let d = places_column(texts, 1539, p);
+    let e = places_column(texts, 2052, p);
+    let f = places_column(texts, 2565, p);
     if !unlike(sheet, a, b, field_of(line, 0)) {
         return false;
     }
@@ -86,20 +84,10 @@ fn repeated_unless(apart: bool) -> Judged
     Judged::Refused(Refusal::Repeated)
 }
 
-// 15 of a line, by what it turned out to be; a and b are where names start and end, c and d mnemonics, e and f identifications.
-pub fn names_judged(
-    form: Form,
-    sheet: &[u8],
-    line: &[u8],
-    a: &[usize],
-    b: &[usize],
-    c: &[usize],
-    d: &[usize],
-    e: &[usize],
-    f: &[usize],
-) -> Judged
-    requires { ⌜ (length (now a) ≡ length (now b)) × (length (now c) ≡ length (now d)) × (length (now e) ≡ length (now f)) ⌝ }
-    ensures { λ r. ⌜ r ≡ namesIn form (textsAt (now (sheet .entry)) (now (a .entry)) (now (b .entry))) (textsAt (now (sheet .entry)) (now (c .entry)) (now (d .entry))) (textsAt (now (sheet .entry)) (now (e .entry)) (now (f .entry))) (now (line .entry)) ⌝ }
+// 15 of a line, by what it turned out to be.
+pub fn names_judged(form: Form, sheet: &[u8], line: &[u8], texts: &[usize], p: usize) -> Judged
+    requires { ⌜ (p ≤ 512) × (length (now texts) ≡ 3078) ⌝ }
+    ensures { λ r. ⌜ r ≡ namesIn form (textsIn (now (sheet .entry)) 0 p (now (texts .entry))) (textsIn (now (sheet .entry)) 1026 p (now (texts .entry))) (textsIn (now (sheet .entry)) 2052 p (now (texts .entry))) (now (line .entry)) ⌝ }
 {
     match form {
         Form::Stray => Judged::Passes,
@@ -110,7 +98,7 @@ pub fn names_judged(
         Form::RecordLine => Judged::Passes,
         Form::NoneWord => Judged::Passes,
         Form::ParameterWord => Judged::Passes,
-        Form::NameLine => repeated_unless(unlike_names(sheet, line, a, b, c, d, e, f)),
+        Form::NameLine => repeated_unless(unlike_names(sheet, line, texts, p)),
         Form::OpeningComponent => Judged::Passes,
         Form::ComponentLine => Judged::Passes,
         Form::TimeLine => Judged::Passes,

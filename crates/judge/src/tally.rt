@@ -10,7 +10,7 @@ ghost use mathlib.Core.Path.{_≡_};
 ghost use mathlib.Core.Bool.{cond};
 ghost use Rattle.lineforms.specs.Said.{valueIn};
 ghost use Rattle.gather.specs.Book.{emptyBook};
-ghost use Rattle.judge.specs.Counts.{tallyOf, countedOf, namedTally, closedTally, Small};
+ghost use Rattle.judge.specs.Counts.{tallyOf, countedOf, declaredTally, pairedTally, namedTally, partedTally, timedTally, signedTally, rangedTally, closedTally, Small};
 
 // samples and components in all, with the open parameter's and the open sample's; own are the open parameter's samples,
 // parts the open sample's components, text the whole parameters' bytes of text; then the open parameter.
@@ -54,6 +54,28 @@ pub fn nothing() -> Tally
     }
 }
 
+// The header line says how many subframes there are, and whether they come in order.
+fn declared(x: Tally, line: &[u8]) -> Tally
+    ensures { λ r. ⌜ r ≡ declaredTally (now (line .entry)) x ⌝ }
+{
+    Tally {
+        declared: subframes_in(line) as usize,
+        sequential: sequential_in(line),
+        ..x
+    }
+}
+
+// One record pair more.
+fn paired(x: Tally) -> Tally
+    requires { ⌜ Small x 100000 ⌝ }
+    ensures { λ r. ⌜ r ≡ pairedTally x ⌝ }
+{
+    Tally {
+        pairs: x.pairs + 1,
+        ..x
+    }
+}
+
 // The 7-field line opens a parameter.
 fn named(x: Tally, line: &[u8]) -> Tally
     ensures { λ r. ⌜ r ≡ namedTally (now (line .entry)) x ⌝ }
@@ -66,6 +88,59 @@ fn named(x: Tally, line: &[u8]) -> Tally
         identifier: identifier_in(line),
         signed: false,
         value: 0,
+        ..x
+    }
+}
+
+// One component more.
+fn parted(x: Tally) -> Tally
+    requires { ⌜ Small x 100000 ⌝ }
+    ensures { λ r. ⌜ r ≡ partedTally x ⌝ }
+{
+    Tally {
+        components: x.components + 1,
+        parts: x.parts + 1,
+        ..x
+    }
+}
+
+// The time line closes a sample.
+fn timed(x: Tally) -> Tally
+    requires { ⌜ Small x 100000 ⌝ }
+    ensures { λ r. ⌜ r ≡ timedTally x ⌝ }
+{
+    Tally {
+        samples: x.samples + 1,
+        own: x.own + 1,
+        parts: 0,
+        ..x
+    }
+}
+
+fn signed(x: Tally, line: &[u8]) -> Tally
+    ensures { λ r. ⌜ r ≡ signedTally (now (line .entry)) x ⌝ }
+{
+    Tally {
+        signed: signed_in(line),
+        ..x
+    }
+}
+
+// The value of an identifier, else 0.
+fn range_value(identifier: bool, line: &[u8]) -> u64
+    ensures { λ r. ⌜ r ≡ cond identifier (valueIn (now (line .entry))) 0 ⌝ }
+{
+    if identifier {
+        return value_in(line);
+    }
+    0
+}
+
+fn ranged(x: Tally, line: &[u8]) -> Tally
+    ensures { λ r. ⌜ r ≡ rangedTally (now (line .entry)) x ⌝ }
+{
+    Tally {
+        value: range_value(x.identifier, line),
         ..x
     }
 }
@@ -89,16 +164,6 @@ fn closed(x: Tally) -> Tally
     }
 }
 
-// The value of an identifier, else 0.
-fn range_value(identifier: bool, line: &[u8]) -> u64
-    ensures { λ r. ⌜ r ≡ cond identifier (valueIn (now (line .entry))) 0 ⌝ }
-{
-    if identifier {
-        return value_in(line);
-    }
-    0
-}
-
 // The counts after a line that passed.
 pub fn counted(form: Form, line: &[u8], x: Tally) -> Tally
     requires { ⌜ Small x 100000 ⌝ }
@@ -108,44 +173,18 @@ pub fn counted(form: Form, line: &[u8], x: Tally) -> Tally
         Form::Stray => x,
         Form::Superframe => x,
         Form::HeaderWord => x,
-        Form::HeaderLine => Tally {
-            declared: subframes_in(line) as usize,
-            sequential: sequential_in(line),
-            ..x
-        },
+        Form::HeaderLine => declared(x, line),
         Form::RecordWord => x,
-        Form::RecordLine => Tally {
-            pairs: x.pairs + 1,
-            ..x
-        },
+        Form::RecordLine => paired(x),
         Form::NoneWord => x,
         Form::ParameterWord => x,
         Form::NameLine => named(x, line),
-        Form::OpeningComponent => Tally {
-            components: x.components + 1,
-            parts: x.parts + 1,
-            ..x
-        },
-        Form::ComponentLine => Tally {
-            components: x.components + 1,
-            parts: x.parts + 1,
-            ..x
-        },
-        Form::TimeLine => Tally {
-            samples: x.samples + 1,
-            own: x.own + 1,
-            parts: 0,
-            ..x
-        },
+        Form::OpeningComponent => parted(x),
+        Form::ComponentLine => parted(x),
+        Form::TimeLine => timed(x),
         Form::SamplesEnd => x,
-        Form::SignedLine => Tally {
-            signed: signed_in(line),
-            ..x
-        },
-        Form::RangeLine => Tally {
-            value: range_value(x.identifier, line),
-            ..x
-        },
+        Form::SignedLine => signed(x, line),
+        Form::RangeLine => ranged(x, line),
         Form::SourceLine => x,
         Form::LabelLine => x,
         Form::SourceEnd => x,

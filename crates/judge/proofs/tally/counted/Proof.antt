@@ -1,14 +1,6 @@
 use borrow.Author.Needs.{needs}
 use Rattle.judge.proofs.tally.counted.Statement.{statement}
 use Rattle.judge.proofs.tally.counted.Tie as tie
-use Rattle.judge.proofs.tally.counted.Reads as reads
-use Rattle.judge.proofs.tally.counted.Lts as lts
-use Rattle.judge.proofs.tally.closed.Reads as closed-reads
-use Rattle.judge.proofs.tally.named.Reads as named-reads
-use Rattle.judge.proofs.tally.range_value.Reads as range-value-reads
-use Rattle.lineforms.proofs.said.sequential_in.Reads as sequential-in-reads
-use Rattle.lineforms.proofs.said.signed_in.Reads as signed-in-reads
-use Rattle.lineforms.proofs.said.subframes_in.Reads as subframes-in-reads
 
 enum-told : tie.Need-enum-told
 enum-told c = search needs
@@ -22,11 +14,8 @@ enum-told-3 c = search needs
 enum-told-4 : tie.Need-enum-told-4
 enum-told-4 c = search needs
 
-subframes-in-requires : tie.Need-subframes-in-requires
-subframes-in-requires c κs = search needs
-
-sequential-in-requires : tie.Need-sequential-in-requires
-sequential-in-requires c κs = search needs
+declared-requires : tie.Need-declared-requires
+declared-requires c κs = search needs
 
 enum-told-5 : tie.Need-enum-told-5
 enum-told-5 c = search needs
@@ -34,8 +23,8 @@ enum-told-5 c = search needs
 enum-told-6 : tie.Need-enum-told-6
 enum-told-6 c = search needs
 
-add-t21 : tie.Need-add-t21
-add-t21 c = search needs
+paired-requires : tie.Need-paired-requires
+paired-requires c κs = search needs
 
 enum-told-7 : tie.Need-enum-told-7
 enum-told-7 c = search needs
@@ -52,29 +41,20 @@ named-requires c κs = search needs
 enum-told-10 : tie.Need-enum-told-10
 enum-told-10 c = search needs
 
-add-t36 : tie.Need-add-t36
-add-t36 c = search needs
-
-add-t37 : tie.Need-add-t37
-add-t37 c = search needs
+parted-requires : tie.Need-parted-requires
+parted-requires c κs = search needs
 
 enum-told-11 : tie.Need-enum-told-11
 enum-told-11 c = search needs
 
-add-t51 : tie.Need-add-t51
-add-t51 c = search needs
-
-add-t52 : tie.Need-add-t52
-add-t52 c = search needs
+parted-requires-2 : tie.Need-parted-requires-2
+parted-requires-2 c κs = search needs
 
 enum-told-12 : tie.Need-enum-told-12
 enum-told-12 c = search needs
 
-add-t66 : tie.Need-add-t66
-add-t66 c = search needs
-
-add-t67 : tie.Need-add-t67
-add-t67 c = search needs
+timed-requires : tie.Need-timed-requires
+timed-requires c κs = search needs
 
 enum-told-13 : tie.Need-enum-told-13
 enum-told-13 c = search needs
@@ -82,14 +62,14 @@ enum-told-13 c = search needs
 enum-told-14 : tie.Need-enum-told-14
 enum-told-14 c = search needs
 
-signed-in-requires : tie.Need-signed-in-requires
-signed-in-requires c κs = search needs
+signed-requires : tie.Need-signed-requires
+signed-requires c κs = search needs
 
 enum-told-15 : tie.Need-enum-told-15
 enum-told-15 c = search needs
 
-range-value-requires : tie.Need-range-value-requires
-range-value-requires c κs = search needs
+ranged-requires : tie.Need-ranged-requires
+ranged-requires c κs = search needs
 
 enum-told-16 : tie.Need-enum-told-16
 enum-told-16 c = search needs
@@ -116,13 +96,13 @@ returns-3 : tie.Need-returns-3
 returns-3 c = simp (c .enum-told3 .given .1)
 
 returns-4 : tie.Need-returns-4
-returns-4 c = simp (c .sequential-in .ensures, c .before .subframes-in .ensures, c .before .before .enum-told4 .given .1)
+returns-4 c = simp (c .declared .ensures, c .before .enum-told4 .given .1)
 
 returns-5 : tie.Need-returns-5
 returns-5 c = simp (c .enum-told5 .given .1)
 
 returns-6 : tie.Need-returns-6
-returns-6 c = simp (c .before .enum-told6 .given .1)
+returns-6 c = simp (c .paired .ensures, c .before .enum-told6 .given .1)
 
 returns-7 : tie.Need-returns-7
 returns-7 c = simp (c .enum-told7 .given .1)
@@ -134,22 +114,22 @@ returns-9 : tie.Need-returns-9
 returns-9 c = simp (c .named .ensures, c .before .enum-told9 .given .1)
 
 returns-10 : tie.Need-returns-10
-returns-10 c = simp (c .before .before .enum-told10 .given .1)
+returns-10 c = simp (c .parted .ensures, c .before .enum-told10 .given .1)
 
 returns-11 : tie.Need-returns-11
-returns-11 c = simp (c .before .before .enum-told11 .given .1)
+returns-11 c = simp (c .parted2 .ensures, c .before .enum-told11 .given .1)
 
 returns-12 : tie.Need-returns-12
-returns-12 c = simp (c .before .before .enum-told12 .given .1)
+returns-12 c = simp (c .timed .ensures, c .before .enum-told12 .given .1)
 
 returns-13 : tie.Need-returns-13
 returns-13 c = simp (c .enum-told13 .given .1)
 
 returns-14 : tie.Need-returns-14
-returns-14 c = simp (c .signed-in .ensures, c .before .enum-told14 .given .1)
+returns-14 c = simp (c .signed .ensures, c .before .enum-told14 .given .1)
 
 returns-15 : tie.Need-returns-15
-returns-15 c = simp (c .range-value .ensures, c .before .enum-told15 .given .1)
+returns-15 c = simp (c .ranged .ensures, c .before .enum-told15 .given .1)
 
 returns-16 : tie.Need-returns-16
 returns-16 c = simp (c .enum-told16 .given .1)
@@ -171,29 +151,25 @@ counted-spec =
     enum-told-2
     enum-told-3
     enum-told-4
-    subframes-in-requires
-    sequential-in-requires
+    declared-requires
     enum-told-5
     enum-told-6
-    add-t21
+    paired-requires
     enum-told-7
     enum-told-8
     enum-told-9
     named-requires
     enum-told-10
-    add-t36
-    add-t37
+    parted-requires
     enum-told-11
-    add-t51
-    add-t52
+    parted-requires-2
     enum-told-12
-    add-t66
-    add-t67
+    timed-requires
     enum-told-13
     enum-told-14
-    signed-in-requires
+    signed-requires
     enum-told-15
-    range-value-requires
+    ranged-requires
     enum-told-16
     enum-told-17
     enum-told-18

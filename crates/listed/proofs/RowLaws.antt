@@ -1,0 +1,166 @@
+-- The rows of a parameter by what its table stores. Assumes nothing.
+use mathlib.Core.Path.{_≡_, refl, sym, ap, ap₂, subst, _∙_}
+use mathlib.Core.List.{List, [], _∷_, _++_}
+use Prim.Native.Nat.{ℕ, suc, _+_, _*_, _≤_, _<_}
+use native.Mathlib.Omega.{arith}
+use native.Mathlib.Numerals.{add-one}
+use mathlib.Core.Bool.{Bool, true, false, cond}
+use native.Mathlib.Nat.{lt-of-lt-of-le}
+use lib.IntN.{ℤ, pos}
+use lib.Pow.{pow-mono}
+use mir.Syntax.{w64}
+use mir.Val.{SFits, toZ, ofZ}
+use mir.ValLaws.{toZ-ofZ}
+use Rattle.bits.specs.Sign.{signed}
+use Rattle.bits.proofs.Signs.{signed-mag}
+use lib.ListN.{length, length-append}
+use Rattle.lay.specs.Below.{flat}
+use Rattle.lay.specs.Bytes.{put}
+use Rattle.lay.proofs.Puts.{length-put, put-none}
+use Rattle.model.specs.Content.{Parameter, Sample, parameter}
+use Rattle.model.specs.Samples.{widthOf}
+use Rattle.model.specs.Stored.{parametersIn, sampleCountIn, firstSampleIn, nameIn}
+use Rattle.model.specs.View.{view, parameterAt, sampleAt}
+use Rattle.model.proofs.Views.{parameter-view, samples-at}
+use Rattle.rules.specs.Ruled.{Ruled, subframesOf}
+use Rattle.frame.proofs.Answered.{raw-below}
+use Rattle.frame.proofs.Listed.{listed-at}
+use Rattle.model.proofs.Pieces.{width-some}
+use Rattle.frame.specs.Reading.{rawOf, widthIs, valueOf, sampleRead}
+use Rattle.frame.specs.declared.read.Reading.{Reading}
+use Rattle.frame.specs.declared.read.Reading.the-variants as reading
+use Rattle.frame.specs.declared.want.Wanted.{Wanted}
+use Rattle.listed.specs.Decimals.{decimalText, valueText}
+use Rattle.listed.specs.Lines.{comma, endByte, rowText}
+use Rattle.listed.specs.Listing.{sampleRow, parameterRows}
+use Rattle.listed.proofs.DecimalLaws.{decimal-short}
+use Rattle.listed.proofs.LineLaws.{Step, then-step, last-short}
+
+-- ---- a row's length
+
+row-short : (name : List ℕ) (s w r : ℕ) (v : ℤ) → length (rowText name s w r v) ≤ length name + 86
+unfolding rowText
+row-short name s w r v =
+    let d = valueText v ++ (endByte ∷ []) in
+    let c = decimalText r ++ (comma ∷ d) in
+    let b = decimalText w ++ (comma ∷ c) in
+    let a = decimalText s ++ (comma ∷ b) in
+    omega (
+      arith,
+      length-append name (comma ∷ a),
+      length-append (decimalText s) (comma ∷ b),
+      length-append (decimalText w) (comma ∷ c),
+      length-append (decimalText r) (comma ∷ d),
+      last-short v endByte,
+      decimal-short s,
+      decimal-short w,
+      decimal-short r,
+    )
+
+-- the first j rows of parameter i are there, and end at at
+pub record Rows (b : List ℕ) (i : ℕ) (f out₀ out : List ℕ) (at j : ℕ) : Type 0 where
+  pub few : j ≤ sampleCountIn b i
+  pub step : Step out₀ 0 (flat j (sampleRow (view b) f i)) at out
+  pub most : at ≤ 150 * j
+  pub long : length out ≡ length out₀
+
+-- ---- what a table stores of parameter i
+
+module _ (b : List ℕ) (h : Ruled b) (i : ℕ) (l : i < parametersIn b) where
+  pub name-is : parameter (view b) i .name ≡ nameIn b i
+  unfolding parameterAt
+  name-is = ap (λ (p : Parameter). p .name) (parameter-view b i l)
+
+  pub name-short : length (nameIn b i) ≤ 64
+  unfolding parameterAt
+  name-short = h .parameters .each i l .name .short
+
+  pub count-is : length (parameter (view b) i .samples) ≡ sampleCountIn b i
+  count-is = ap (λ (p : Parameter). length (p .samples)) (parameter-view b i l) ∙ samples-at b i
+
+  pub count-short : sampleCountIn b i ≤ 64
+  count-short = let k = h .parameters .each i l .few in omega (arith, k, samples-at b i)
+
+  row-most : (f : List ℕ) (j : ℕ) → length (sampleRow (view b) f i j) ≤ 150
+  unfolding sampleRow
+  row-most f j = omega (arith, row-short (parameter (view b) i .name) (j + 1) (widthIs (view b) i j) (rawOf (view b) f i j) (valueOf (view b) f i j), ap length name-is, name-short)
+
+  -- ---- a listed sample's value fits the machine's number
+
+  module _ (f : List ℕ) (j : ℕ) (m : j < sampleCountIn b i) where
+    width-most : widthIs (view b) i j ≤ 32
+    unfolding widthIs
+    width-most = let k = listed-at b i j h l m in subst (λ (s : Sample). widthOf (subframesOf b) s ≤ 32) (sym (k .is)) (k .law .narrow)
+
+    width-least : 1 ≤ widthIs (view b) i j
+    unfolding widthIs
+    width-least =
+        let k = listed-at b i j h l m in
+        subst (λ (s : Sample). 1 ≤ widthOf (subframesOf b) s) (sym (k .is)) (width-some (subframesOf b) (sampleAt b (firstSampleIn b i + j)) (k .law .each) (k .law .some))
+
+    pub value-fits : SFits w64 (valueOf (view b) f i j)
+    unfolding valueOf
+    value-fits = go (parameter (view b) i .signed)
+      where
+        go : (t : Bool) → SFits w64 (cond t (signed (widthIs (view b) i j) (rawOf (view b) f i j)) (pos (rawOf (view b) f i j)))
+        go true = record { sfits = lt-of-lt-of-le (signed-mag (widthIs (view b) i j) (rawOf (view b) f i j) width-least (raw-below (view b) f i j)) (pow-mono {j = 63} (omega (arith, width-most))) }
+        go false = record { sfits = lt-of-lt-of-le (raw-below (view b) f i j) (pow-mono {j = 63} (omega (arith, width-most))) }
+
+    abbrev value-of : ℤ → Reading → ℤ
+    value-of z (reading.Sample r w v) = v
+    value-of z (reading.Refused q) = z
+
+    pub value-back : (r w : ℕ) (v : ℤ) → reading.Sample r w v ≡ sampleRead (view b) f i j → toZ w64 (ofZ w64 v) ≡ v
+    unfolding sampleRead
+    value-back r w v q = toZ-ofZ w64 v (subst (SFits w64) (sym (ap (value-of v) q)) value-fits)
+
+  -- ---- a sample that is read is a row
+
+  abbrev raw-in : Reading → ℕ
+  raw-in (reading.Sample r w v) = r
+  raw-in (reading.Refused q) = 0
+
+  abbrev width-in : Reading → ℕ
+  width-in (reading.Sample r w v) = w
+  width-in (reading.Refused q) = 0
+
+  abbrev value-in : ℤ → Reading → ℤ
+  value-in z (reading.Sample r w v) = v
+  value-in z (reading.Refused q) = z
+
+  pub read-row : (f out after : List ℕ) (o e j r w : ℕ) (v : ℤ) (name : List ℕ) → reading.Sample r w v ≡ sampleRead (view b) f i j → name ≡ nameIn b i → Step out o (rowText name (j + 1) w r v) e after → Step out o (sampleRow (view b) f i j) e after
+  unfolding sampleRead sampleRow
+  read-row f out after o e j r w v name q n s =
+      let row : rowText name (j + 1) w r v ≡ rowText (parameter (view b) i .name) (j + 1) (widthIs (view b) i j) (rawOf (view b) f i j) (valueOf (view b) f i j) =
+      ap₂ (λ (x : List ℕ) (t : Reading). rowText x (j + 1) (width-in t) (raw-in t) (value-in v t)) (n ∙ sym name-is) q in
+      subst (λ (x : List ℕ). Step out o x e after) row s
+
+  pub never-refused : (f : List ℕ) (j : ℕ) (q : Wanted) → reading.Refused q ≡ sampleRead (view b) f i j → ⊥
+  unfolding sampleRead
+  never-refused f j q e = let z : _≡_ {A = ℕ} 0 1 = cc in omega arith
+
+  -- ---- row after row
+
+  pub rows-start : (f out : List ℕ) → Rows b i f out out 0 0
+  rows-start f out = record { few = omega arith; step = (refl, sym (put-none out 0)); most = omega arith; long = refl }
+
+  module _ (f out₀ out : List ℕ) (at j : ℕ) (w : Rows b i f out₀ out at j) (room : 9600 ≤ length out₀) where
+    pub rows-room : j < sampleCountIn b i → at + 150 ≤ length out
+    rows-room m = omega (arith, w .most, w .long, room, count-short, m)
+
+    pub rows-next : (after : List ℕ) (e : ℕ) → j < sampleCountIn b i → Step out at (sampleRow (view b) f i j) e after → Rows b i f out₀ after e (j + 1)
+    rows-next after e m s =
+        let k = row-most f j in
+        record {
+          few = omega (arith, m);
+          step = subst (λ (n : ℕ). Step out₀ 0 (flat n (sampleRow (view b) f i)) e after) (sym (add-one j)) (then-step out₀ out after (flat j (sampleRow (view b) f i)) (sampleRow (view b) f i j) 0 at e (w .step) s (omega (arith, w .most, k, room, count-short, m)));
+          most = omega (arith, s .0, w .most, k);
+          long = ap length (s .1) ∙ (length-put out at (sampleRow (view b) f i j) (omega (arith, w .most, w .long, k, room, count-short, m)) ∙ w .long);
+        }
+
+    pub rows-end : sampleCountIn b i ≤ j → (at ≡ length (parameterRows (view b) f i)) × (out ≡ put out₀ 0 (parameterRows (view b) f i))
+    unfolding parameterRows
+    rows-end m =
+        let n : length (parameter (view b) i .samples) ≡ j = omega (arith, count-is, m, w .few) in
+        let s = subst (λ (k : ℕ). Step out₀ 0 (flat k (sampleRow (view b) f i)) at out) (sym n) (w .step) in
+        (omega (arith, s .0), s .1)

@@ -1,0 +1,35 @@
+-- What the listing writes: "name,sample,width,raw,value", then "Rows go by parameter, then sample; each line ends with byte
+-- 10"; "or `refused N L` alone, L being 0 without a line".
+use Prim.Native.Nat.{ℕ, _+_, _*_, _/_}
+use mathlib.Core.List.{List, [], _∷_, _++_}
+use lib.ListN.{length}
+use Rattle.lay.specs.Below.{tab, flat}
+use Rattle.lay.specs.Bytes.{numAt}
+use Rattle.model.specs.Content.{Content, parameter, parameters}
+use Rattle.frame.specs.Reading.{rawOf, widthIs, valueOf}
+use Rattle.listed.specs.Decimals.{decimalText}
+use Rattle.listed.specs.Lines.{endByte, rowText}
+
+-- name,sample,width,raw,value
+abbrev pub headingText : List ℕ
+headingText = 110 ∷ 97 ∷ 109 ∷ 101 ∷ 44 ∷ 115 ∷ 97 ∷ 109 ∷ 112 ∷ 108 ∷ 101 ∷ 44 ∷ 119 ∷ 105 ∷ 100 ∷ 116 ∷ 104 ∷ 44 ∷ 114 ∷ 97 ∷ 119 ∷ 44 ∷ 118 ∷ 97 ∷ 108 ∷ 117 ∷ 101 ∷ 10 ∷ []
+
+-- the row of sample j of parameter i, both counted from 0; in the row samples count from 1
+unfoldable pub sampleRow : Content → List ℕ → ℕ → ℕ → List ℕ
+sampleRow c f i j = rowText (parameter c i .name) (j + 1) (widthIs c i j) (rawOf c f i j) (valueOf c f i j)
+
+-- all rows of parameter i, and of all parameters
+unfoldable pub parameterRows : Content → List ℕ → ℕ → List ℕ
+parameterRows c f i = flat (length (parameter c i .samples)) (sampleRow c f i)
+
+unfoldable pub allRows : Content → List ℕ → List ℕ
+allRows c f = flat (parameters c) (parameterRows c f)
+
+-- refused N L
+unfoldable pub refusedText : ℕ → ℕ → List ℕ
+refusedText n l =
+    (114 ∷ 101 ∷ 102 ∷ 117 ∷ 115 ∷ 101 ∷ 100 ∷ []) ++ (32 ∷ (decimalText n ++ (32 ∷ (decimalText l ++ (endByte ∷ [])))))
+
+-- "words of two bytes, low first"
+unfoldable pub wordsOf : List ℕ → List ℕ
+wordsOf b = tab (length b / 2) (λ i. numAt 2 b (2 * i))

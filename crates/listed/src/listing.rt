@@ -1,0 +1,103 @@
+// The lines of the listing, written into a lent slice: the heading, the rows of a parameter, a refusal; and a frame's words.
+use crate::rows::put_field;
+use crate::rows::put_part;
+use crate::rows::put_row;
+use frame::read::Reading;
+use frame::read::sample_in;
+use lay::put::put_text;
+use rules::bases::Bases;
+use rules::texts::name_in;
+use stored::items::parameter_at;
+ghost use mathlib.Core.Path.{_≡_};
+ghost use Prim.Native.Nat.{_+_, _*_, _≤_, _<_};
+ghost use lib.ListN.{length};
+ghost use Rattle.lay.specs.Bytes.{put};
+ghost use Rattle.model.specs.Frame.{frameWords};
+ghost use Rattle.model.specs.Stored.{parametersIn, sampleCountIn};
+ghost use Rattle.model.specs.View.{view};
+ghost use Rattle.rules.specs.Ruled.{Ruled, BasesOf};
+ghost use Rattle.listed.specs.Listing.{headingText, sampleRow, parameterRows, refusedText, wordsOf};
+
+// Answers where it ends, as all of these do.
+pub fn put_heading(out: &mut [u8]) -> usize
+    requires { ⌜ 28 ≤ length (now out) ⌝ }
+    ensures { λ r. ⌜ (r ≡ length headingText) × (now (out .exit) ≡ put (now (out .entry)) 0 headingText) ⌝ }
+{
+    put_text(out, 0, b"name,sample,width,raw,value\n");
+    28
+}
+
+// Line 0 where no line is to be named.
+pub fn put_refused(out: &mut [u8], number: u32, line: u32) -> usize
+    requires { ⌜ 50 ≤ length (now out) ⌝ }
+    ensures { λ r. ⌜ (r ≡ 0 + length (refusedText number line)) × (now (out .exit) ≡ put (now (out .entry)) 0 (refusedText number line)) ⌝ }
+{
+    let a = put_part(out, 0, b"refused", 32);
+    let b = put_field(out, a, number as u64, 32);
+    put_field(out, b, line as u64, 10)
+}
+
+// The row of sample j of parameter i, both counted from 0, at o.
+fn put_sample(
+    t: &[u8],
+    words: &[u16],
+    i: usize,
+    j: usize,
+    bases: Bases,
+    out: &mut [u8],
+    o: usize,
+) -> usize
+    requires { ⌜ Ruled (now t) ⌝ }
+    requires { ⌜ BasesOf (now t) bases ⌝ }
+    requires { ⌜ i < parametersIn (now t) ⌝ }
+    requires { ⌜ j < sampleCountIn (now t) i ⌝ }
+    requires { ⌜ length (now words) ≡ frameWords (view (now t)) ⌝ }
+    requires { ⌜ o + 150 ≤ length (now out) ⌝ }
+    ensures { λ r. ⌜ (r ≡ o + length (sampleRow (view (now (t .entry))) (now (words .entry)) i j)) × (now (out .exit) ≡ put (now (out .entry)) o (sampleRow (view (now (t .entry))) (now (words .entry)) i j)) ⌝ }
+{
+    match sample_in(t, words, i, j, bases) {
+        Reading::Sample { raw, width, value } => put_row(
+            out,
+            o,
+            name_in(t, i),
+            j as u64 + 1,
+            width as u64,
+            raw as u64,
+            value,
+        ),
+        Reading::Refused(_) => o,
+    }
+}
+
+// All rows of parameter i, counted from 0; it has at most 64 samples.
+pub fn put_parameter(t: &[u8], words: &[u16], i: usize, bases: Bases, out: &mut [u8]) -> usize
+    requires { ⌜ Ruled (now t) ⌝ }
+    requires { ⌜ BasesOf (now t) bases ⌝ }
+    requires { ⌜ i < parametersIn (now t) ⌝ }
+    requires { ⌜ length (now words) ≡ frameWords (view (now t)) ⌝ }
+    requires { ⌜ 9600 ≤ length (now out) ⌝ }
+    ensures { λ r. ⌜ (r ≡ length (parameterRows (view (now (t .entry))) (now (words .entry)) i)) × (now (out .exit) ≡ put (now (out .entry)) 0 (parameterRows (view (now (t .entry))) (now (words .entry)) i)) ⌝ }
+{
+    let e = parameter_at(t, i);
+    let count = e.count;
+    let mut at = 0;
+    let mut j = 0;
+    while j < count {
+        at = put_sample(t, words, i, j, bases, out, at);
+        j += 1;
+    }
+    at
+}
+
+// The words that the bytes spell; an odd last byte is left out.
+pub fn put_words(bytes: &[u8], words: &mut [u16])
+    requires { ⌜ length (now bytes) ≤ 2 * length (now words) ⌝ }
+    ensures { λ _. ⌜ now (words .exit) ≡ put (now (words .entry)) 0 (wordsOf (now (bytes .entry))) ⌝ }
+{
+    let n = bytes.len() / 2;
+    let mut i = 0;
+    while i < n {
+        words[i] = lay::two_at(bytes, 2 * i) as u16;
+        i += 1;
+    }
+}
