@@ -14,7 +14,7 @@ use Rattle.listed.specs.Decimals.{digitsIn, decimalText}
 
 -- ---- powers of ten
 
-ten-more : (k : ℕ) → 10 ^ suc k ≡ 10 * 10 ^ k
+pub ten-more : (k : ℕ) → 10 ^ suc k ≡ 10 * 10 ^ k
 ten-more k = simp unary-clauses (omega arith)
 
 ten-some : (k : ℕ) → 1 ≤ 10 ^ k

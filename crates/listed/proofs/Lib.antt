@@ -5,3 +5,4 @@ pub mod RowSteps
 pub mod RowLaws
 pub mod WordLaws
 pub mod RefusedLaws
+pub mod ReadBack
