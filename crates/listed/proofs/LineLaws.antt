@@ -4,13 +4,14 @@ use mathlib.Core.List.{List, [], _∷_, _++_, append-assoc}
 use Prim.Native.Nat.{ℕ, suc, _+_, _≤_, _<_}
 use native.Mathlib.Omega.{arith}
 use native.Mathlib.Numerals.{add-one}
-use lib.Seq.{set-split}
+use lib.Seq.{set-split, take-append-seam}
 use lib.IntN.{ℤ, pos, negsuc}
-use lib.ListN.{length, set, length-append}
+use lib.ListN.{length, set, take, drop, length-append}
+use Rattle.io.specs.Counts.{Counts}
 use Rattle.lay.specs.Bytes.{put}
 use Rattle.listed.specs.Decimals.{decimalText, valueText}
 use Rattle.listed.proofs.DecimalLaws.{decimal-short}
-use Rattle.lay.proofs.Puts.{length-put, put-then}
+use Rattle.lay.proofs.Puts.{length-put, put-then, put-front}
 
 put-byte : (out : List ℕ) (o n : ℕ) → o < length out → set out o n ≡ put out o (n ∷ [])
 unfolding put
@@ -64,3 +65,10 @@ value-short (negsuc n) = omega (arith, decimal-short (suc n))
 
 pub last-short : (v : ℤ) (s : ℕ) → length (valueText v ++ (s ∷ [])) ≤ 22
 last-short v s = omega (arith, length-append (valueText v) (s ∷ []), value-short v)
+
+-- what was put at the front is counted by its length
+pub front-counts : (out after x : List ℕ) (r : ℕ) → r ≡ length x → after ≡ put out 0 x → length x ≤ length out → Counts r after
+front-counts out after x r e p h =
+    let f : after ≡ x ++ drop (length x) out = p ∙ put-front out x in
+    let t : take r after ≡ x = rw (e, f) (take-append-seam x (drop (length x) out)) in
+    (omega (arith, e, ap length f, length-append x (drop (length x) out)), e ∙ sym (ap length t))

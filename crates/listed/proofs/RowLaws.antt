@@ -14,6 +14,7 @@ use mir.ValLaws.{toZ-ofZ}
 use Rattle.bits.specs.Sign.{signed}
 use Rattle.bits.proofs.Signs.{signed-mag}
 use lib.ListN.{length, length-append}
+use Rattle.io.specs.Counts.{Counts}
 use Rattle.lay.specs.Below.{flat}
 use Rattle.lay.specs.Bytes.{put}
 use Rattle.lay.proofs.Puts.{length-put, put-none}
@@ -34,7 +35,7 @@ use Rattle.listed.specs.Decimals.{decimalText, valueText}
 use Rattle.listed.specs.Lines.{comma, endByte, rowText}
 use Rattle.listed.specs.Listing.{sampleRow, parameterRows}
 use Rattle.listed.proofs.DecimalLaws.{decimal-short}
-use Rattle.listed.proofs.LineLaws.{Step, then-step, last-short}
+use Rattle.listed.proofs.LineLaws.{Step, then-step, last-short, front-counts}
 
 -- ---- a row's length
 
@@ -158,9 +159,10 @@ module _ (b : List ℕ) (h : Ruled b) (i : ℕ) (l : i < parametersIn b) where
           long = ap length (s .1) ∙ (length-put out at (sampleRow (view b) f i j) (omega (arith, w .most, w .long, k, room, count-short, m)) ∙ w .long);
         }
 
-    pub rows-end : sampleCountIn b i ≤ j → (at ≡ length (parameterRows (view b) f i)) × (out ≡ put out₀ 0 (parameterRows (view b) f i))
+    pub rows-end : sampleCountIn b i ≤ j → ((at ≡ length (parameterRows (view b) f i)) × (out ≡ put out₀ 0 (parameterRows (view b) f i))) × Counts at out
     unfolding parameterRows
     rows-end m =
         let n : length (parameter (view b) i .samples) ≡ j = omega (arith, count-is, m, w .few) in
         let s = subst (λ (k : ℕ). Step out₀ 0 (flat k (sampleRow (view b) f i)) at out) (sym n) (w .step) in
-        (omega (arith, s .0), s .1)
+        let r : at ≡ length (parameterRows (view b) f i) = omega (arith, s .0) in
+        ((r, s .1), front-counts out₀ out (parameterRows (view b) f i) at r (s .1) (omega (arith, r, w .most, w .few, room, count-short)))

@@ -11,6 +11,7 @@ use stored::items::parameter_at;
 ghost use mathlib.Core.Path.{_≡_};
 ghost use Prim.Native.Nat.{_+_, _*_, _≤_, _<_};
 ghost use lib.ListN.{length};
+ghost use Rattle.io.specs.Counts.{Counts};
 ghost use Rattle.lay.specs.Bytes.{put};
 ghost use Rattle.model.specs.Frame.{frameWords};
 ghost use Rattle.model.specs.Stored.{parametersIn, sampleCountIn};
@@ -22,6 +23,7 @@ ghost use Rattle.listed.specs.Listing.{headingText, sampleRow, parameter
 pub fn put_heading(out: &mut [u8]) -> usize
     requires { ⌜ 28 ≤ length (now out) ⌝ }
     ensures { λ r. ⌜ (r ≡ length headingText) × (now (out .exit) ≡ put (now (out .entry)) 0 headingText) ⌝ }
+    ensures { λ r. ⌜ Counts r (now (out .exit)) ⌝ }
 {
     put_text(out, 0, b"name,sample,width,raw,value\n");
     28
@@ -30,7 +32,8 @@ pub fn put_heading(out: &mut [u8]) -> usize
 // Line 0 where no line is to be named.
 pub fn put_refused(out: &mut [u8], number: u32, line: u32) -> usize
     requires { ⌜ 50 ≤ length (now out) ⌝ }
-    ensures { λ r. ⌜ (r ≡ 0 + length (refusedText number line)) × (now (out .exit) ≡ put (now (out .entry)) 0 (refusedText number line)) ⌝ }
+    ensures { λ r. ⌜ (r ≡ length (refusedText number line)) × (now (out .exit) ≡ put (now (out .entry)) 0 (refusedText number line)) ⌝ }
+    ensures { λ r. ⌜ Counts r (now (out .exit)) ⌝ }
 {
     let a = put_part(out, 0, b"refused", 32);
     let b = put_field(out, a, number as u64, 32);
@@ -77,6 +80,7 @@ pub fn put_parameter(t: &[u8], words: &[u16], i: usize, bases: Bases, out: &mut 
     requires { ⌜ length (now words) ≡ frameWords (view (now t)) ⌝ }
     requires { ⌜ 9600 ≤ length (now out) ⌝ }
     ensures { λ r. ⌜ (r ≡ length (parameterRows (view (now (t .entry))) (now (words .entry)) i)) × (now (out .exit) ≡ put (now (out .entry)) 0 (parameterRows (view (now (t .entry))) (now (words .entry)) i)) ⌝ }
+    ensures { λ r. ⌜ Counts r (now (out .exit)) ⌝ }
 {
     let e = parameter_at(t, i);
     let count = e.count;
