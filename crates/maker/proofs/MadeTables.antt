@@ -7,7 +7,7 @@ use Prim.Native.Nat.{ℕ, _≤_, _<_}
 use native.Mathlib.Omega.{arith}
 use borrow.Author.Tests.{leb-true, leb-false}
 use lib.Dec.{leb}
-use lib.ListN.{length, take, drop}
+use lib.ListN.{length, take, drop, length-append, length-drop}
 use lib.Seq.{take-append-seam, drop-append-seam}
 use Rattle.text.specs.Refusals.{refusalNumber}
 use Rattle.text.specs.declared.refusal.Refusal.{Refusal}
@@ -124,3 +124,16 @@ module _ (s out : List ℕ) (q : Refusal) (k : ℕ) where
       go : (r : Ruling) → judgeOf s ≡ r → madeOf r (length out) ≡ made.Refused q k → LeftAlone s out q k
       go (Accepted c) p h = room c (leb (length (write 1 c)) (length out)) p refl h
       go (Refused r l) p h = judged-alone r l p (sym (ap (λ (m : Made). refusal-in m q) h)) (sym (ap (λ (m : Made). line-in m k) h))
+
+-- ---- as many bytes are lent afterwards as before
+
+pub left-long : (s out : List ℕ) → length (leftOf (judgeOf s) out) ≡ length out
+left-long s out = go (judgeOf s)
+  where
+    room : (w : List ℕ) (b : Bool) → leb (length w) (length out) ≡ b → length (cond b (w ++ drop (length w) out) out) ≡ length out
+    room w true e = omega (arith, length-append w (drop (length w) out), length-drop (length w) out, leb-true (length w) (length out) e)
+    room w false e = refl
+
+    go : (r : Ruling) → length (leftOf r out) ≡ length out
+    go (Accepted c) = room (write 1 c) (leb (length (write 1 c)) (length out)) refl
+    go (Refused q k) = refl

@@ -1,3 +1,7 @@
+-- A table that was made lies within the lent bytes.
+use mathlib.Core.Path.{sym}
+use lib.Seq.{length-take-le}
+use Rattle.listing.proofs.Rooms.{made-room}
 use borrow.Author.Needs.{needs}
 use Rattle.listing.proofs.main.Statement.{statement}
 use Rattle.listing.proofs.main.Tie as tie
@@ -36,10 +40,10 @@ enum-known-length : tie.Need-enum-known-length
 enum-known-length c = search needs
 
 array-share-prefix-table : tie.Need-array-share-prefix-table
-array-share-prefix-table c = ?
+array-share-prefix-table c = made-room _ _ _ _ (c .before .before .before .before .make .ensures) (c .before .length .given .1)
 
 slice-aggregate-show : tie.Need-slice-aggregate-show
-slice-aggregate-show c = ?
+slice-aggregate-show c = sym (length-take-le _ _ (made-room _ _ _ _ (c .before .before .before .before .before .make .ensures) (c .before .before .length .given .1)))
 
 array-share-prefix-frame : tie.Need-array-share-prefix-frame
 array-share-prefix-frame c = search needs

@@ -1,3 +1,5 @@
+use mathlib.Core.Path.{sym}
+use lib.Seq.{length-take-le}
 use borrow.Author.Needs.{needs}
 use Rattle.listing.proofs.show.show.Statement.{statement}
 use Rattle.listing.proofs.show.show.Tie as tie
@@ -15,7 +17,7 @@ slice-reshare-prefix-fitted : tie.Need-slice-reshare-prefix-fitted
 slice-reshare-prefix-fitted c = search needs
 
 slice-aggregate-fitted : tie.Need-slice-aggregate-fitted
-slice-aggregate-fitted c = ?
+slice-aggregate-fitted c = sym (length-take-le _ _ (search needs))
 
 fitted-requires : tie.Need-fitted-requires
 fitted-requires c κs = search needs
