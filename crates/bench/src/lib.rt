@@ -2,3 +2,4 @@
 pub mod frames;
 pub mod sheets;
 pub mod tables;
+pub mod texts;

@@ -1,0 +1,92 @@
+-- Whether a text fits, and that a name is short. Assumes nothing.
+use mathlib.Core.Path.{_≡_, refl, sym, ap, subst, _∙_}
+use mathlib.Core.Bool.{Bool, true, false, cond, not, _&&_}
+use mathlib.Core.List.{List, []}
+use Prim.Native.Nat.{ℕ, _+_, _-_, _/_, _%_, _≤_, _<_}
+use native.Mathlib.Omega.{arith}
+use borrow.Author.Tests.{le-leb, lt-leb, leb-true, eq-eqb, ne-eqb}
+use lib.Dec.{eqb, leb}
+use lib.IntN.{ℤ}
+use lib.ListN.{length}
+use Rattle.lay.specs.Bytes.{put}
+use Rattle.lay.proofs.Puts.{put-none}
+use Rattle.model.specs.Accepts.{accepts}
+use Rattle.model.specs.Content.{parameters}
+use Rattle.model.specs.View.{view}
+use Rattle.model.proofs.Views.{parameters-view}
+use Rattle.table.specs.Answers.{numbered, askedNumber, nameAnswered}
+use Rattle.table.specs.declared.naming.Asked.the-variants.{Parameter, NoTable, NoParameter}
+use Rattle.table.proofs.Accepting.{accepted-ruled}
+use Rattle.frame.specs.Reading.{readOf}
+use Rattle.frame.specs.declared.read.Reading.{Reading}
+use Rattle.frame.specs.declared.read.Reading.the-variants as reading
+use Rattle.frame.specs.declared.want.Wanted.{Wanted}
+use Rattle.listed.specs.Lines.{rowText}
+use Rattle.listed.specs.Listing.{wordsOf}
+use Rattle.listed.proofs.RowLaws.{name-is, name-short}
+use Rattle.bench.specs.Texts.{Fills, rowOf, rowFor, wholeWords, WordsFill}
+
+-- ---- a text
+
+pub fills-none : (text lent : List ℕ) (need : ℕ) → length lent < need → Fills text need lent 0 lent
+fills-none text lent need h = let b = lt-leb need (length lent) h in (rw b, rw b)
+
+pub fills-some : (text lent after : List ℕ) (need n : ℕ) → need ≤ length lent → n ≡ length text → after ≡ put lent 0 text → Fills text need lent n after
+fills-some text lent after need n h e p = let b = le-leb need (length lent) h in (e ∙ sym (rw b), p ∙ sym (rw b))
+
+-- ---- a row
+
+row-found : (b f : List ℕ) (p s r w : ℕ) (v : ℤ) → readOf b f p s ≡ reading.Sample r w v → rowFor b f p s ≡ rowText (nameAnswered b (askedNumber b p)) s w r v
+unfolding rowFor rowOf
+row-found b f p s r w v e = ap (rowOf (nameAnswered b (askedNumber b p)) s) e
+
+row-missing : (b f : List ℕ) (p s : ℕ) (q : Wanted) → readOf b f p s ≡ reading.Refused q → rowFor b f p s ≡ []
+unfolding rowFor rowOf
+row-missing b f p s q e = ap (rowOf (nameAnswered b (askedNumber b p)) s) e
+
+pub row-fills : (b f lent after name : List ℕ) (p s r w n : ℕ) (v : ℤ) → 150 ≤ length lent → readOf b f p s ≡ reading.Sample r w v → name ≡ nameAnswered b (askedNumber b p) → (n ≡ 0 + length (rowText name s w r v)) × (after ≡ put lent 0 (rowText name s w r v)) → Fills (rowFor b f p s) 150 lent n after
+row-fills b f lent after name p s r w n v h e m t =
+    let row : rowText name s w r v ≡ rowFor b f p s = ap (λ (x : List ℕ). rowText x s w r v) m ∙ sym (row-found b f p s r w v e) in
+    fills-some (rowFor b f p s) lent after 150 n h (omega (arith, t .0, ap length row)) (t .1 ∙ ap (put lent 0) row)
+
+pub row-none : (b f lent : List ℕ) (p s : ℕ) (q : Wanted) → 150 ≤ length lent → readOf b f p s ≡ reading.Refused q → Fills (rowFor b f p s) 150 lent 0 lent
+row-none b f lent p s q h e =
+    let m = row-missing b f p s q e in
+    fills-some (rowFor b f p s) lent lent 150 0 h (sym (ap length m)) (sym (ap (put lent 0) m ∙ put-none lent 0))
+
+-- whoever is asked for, the name has at most 64 bytes
+pub answered-short : (b : List ℕ) (p : ℕ) → length (nameAnswered b (askedNumber b p)) ≤ 64
+unfolding askedNumber numbered nameAnswered
+answered-short b p = go (accepts b) refl
+  where
+    within : (x y : Bool) → leb 1 p ≡ x → leb p (parameters (view b)) ≡ y → accepts b ≡ true → length (nameAnswered b (cond (x && y) (Parameter (p - 1)) NoParameter)) ≤ 64
+    within true true e g a =
+        let l = leb-true 1 p e in
+        let u = leb-true p (parameters (view b)) g in
+        let i = accepted-ruled b a in
+        let k : p - 1 < parameters (view b) = omega (arith, l, u) in
+        let m = parameters-view b in
+        omega (arith, ap length (name-is b i (p - 1) (omega (arith, k, m))), name-short b i (p - 1) (omega (arith, k, m)))
+    within true false e g a = omega arith
+    within false y e g a = omega arith
+
+    go : (t : Bool) → accepts b ≡ t → length (nameAnswered b (cond t (cond (leb 1 p && leb p (parameters (view b))) (Parameter (p - 1)) NoParameter) NoTable)) ≤ 64
+    go true a = within (leb 1 p) (leb p (parameters (view b))) refl refl a
+    go false a = omega arith
+
+-- ---- words
+
+pub words-odd : (bytes lent : List ℕ) → length bytes % 2 ≡ 1 → WordsFill bytes lent 19 lent
+words-odd bytes lent h = let b = eq-eqb (length bytes % 2) 1 h in (rw b, rw b)
+
+pub words-many : (bytes lent : List ℕ) → (length bytes % 2 ≡ 1 → ⊥) → length lent < length bytes / 2 → WordsFill bytes lent 19 lent
+words-many bytes lent h l =
+    let b = ne-eqb (length bytes % 2) 1 h in
+    let d = lt-leb (length bytes / 2) (length lent) l in
+    (rw (b, d), rw (b, d))
+
+pub words-fill : (bytes lent after : List ℕ) → (length bytes % 2 ≡ 1 → ⊥) → length bytes / 2 ≤ length lent → after ≡ put lent 0 (wordsOf bytes) → WordsFill bytes lent 0 after
+words-fill bytes lent after h l p =
+    let b = ne-eqb (length bytes % 2) 1 h in
+    let d = le-leb (length bytes / 2) (length lent) l in
+    (rw (b, d), p ∙ sym (rw (b, d)))

@@ -1,0 +1,111 @@
+//! What a location sheet or a table holds, apart from how it is spelled.
+
+use crate::wrong::{wrongly, Wrong};
+
+/// A sheet's refusal: its number and the line (0 where no line is named).
+#[derive(Clone, Copy, Debug, PartialEq, Eq)]
+pub struct Refusal {
+    pub number: u8,
+    pub line: u32,
+}
+
+#[derive(Clone, Debug, PartialEq, Eq)]
+pub struct Contents {
+    pub sequential: bool,
+    pub subframes: Vec<Subframe>,
+    pub parameters: Vec<Parameter>,
+}
+
+#[derive(Clone, Debug, PartialEq, Eq)]
+pub struct Subframe {
+    pub bits: u16,
+    pub words: u16,
+    pub leading: u16,
+    pub trailing: u16,
+    pub numerator: u64,
+    pub denominator: u32,
+}
+
+#[derive(Clone, Debug, PartialEq, Eq)]
+pub struct Parameter {
+    pub name: Vec<u8>,
+    pub mnemonic: Vec<u8>,
+    pub identification: Vec<u8>,
+    pub signed: bool,
+    /// The value of a record identifier; none for other parameters.
+    pub identifier: Option<u32>,
+    pub samples: Vec<Sample>,
+}
+
+#[derive(Clone, Debug, PartialEq, Eq)]
+pub struct Sample {
+    /// Time offset in millionths of a second.
+    pub time: u32,
+    /// Least significant component first.
+    pub components: Vec<Component>,
+}
+
+#[derive(Clone, Copy, Debug, PartialEq, Eq)]
+pub struct Component {
+    pub subframe: u16,
+    pub word: u16,
+    pub low: u8,
+    pub high: u8,
+}
+
+impl Component {
+    pub fn width(&self) -> u32 {
+        u32::from(self.high) + 1 - u32::from(self.low)
+    }
+
+    pub fn shares_a_bit_with(&self, other: &Component) -> bool {
+        let same_subframe = self.subframe == other.subframe || wrongly(Wrong::B50b);
+        let same_bit = (self.low <= other.high && other.low <= self.high) || wrongly(Wrong::B50a);
+        same_subframe && self.word == other.word && same_bit
+    }
+}
+
+impl Sample {
+    pub fn width(&self) -> u32 {
+        self.components.iter().map(Component::width).sum()
+    }
+
+    pub fn no_bit_twice(&self) -> bool {
+        let components = &self.components;
+        (0..components.len()).all(|later| {
+            components[..later].iter().all(|earlier| !earlier.shares_a_bit_with(&components[later]))
+        })
+    }
+
+    pub fn shares_a_bit_with(&self, other: &Sample) -> bool {
+        let shares = |one: &Component| other.components.iter().any(|c| c.shares_a_bit_with(one));
+        self.components.iter().any(shares)
+    }
+}
+
+impl Contents {
+    pub fn sample_count(&self) -> usize {
+        self.parameters.iter().map(|p| p.samples.len()).sum()
+    }
+
+    pub fn component_count(&self) -> usize {
+        let samples = self.parameters.iter().flat_map(|p| &p.samples);
+        samples.map(|s| s.components.len()).sum()
+    }
+
+    /// Words of a whole frame.
+    pub fn frame_words(&self) -> usize {
+        self.subframes.iter().map(|s| usize::from(s.words)).sum()
+    }
+
+    /// Where in the frame a component's word stands.
+    pub fn word_place(&self, component: &Component) -> usize {
+        let before = usize::from(component.subframe) - 1;
+        let words = self.subframes[..before].iter().map(|s| usize::from(s.words));
+        let start = words.sum::<usize>();
+        if wrongly(Wrong::SlipWordsFromZero) {
+            return (start + usize::from(component.word)).min(self.frame_words() - 1);
+        }
+        start + usize::from(component.word) - 1
+    }
+}
