@@ -58,8 +58,8 @@ negative-put out after o r n v t h l e p q a =
 pub natural-put : (out after : List ℕ) (o r n : ℕ) (v : ℤ) → pos n ≡ v → (r ≡ o + length (decimalText n)) × (after ≡ put out o (decimalText n)) → (r ≡ o + length (valueText v)) × (after ≡ put out o (valueText v))
 natural-put out after o r n v e h = let w = natural-text v n e in (rw w (h .0), rw w (h .1))
 
--- the sign, and then the digits, keep the length
-pub negative-long : (out after : List ℕ) (o n : ℕ) → o + 21 ≤ length out → after ≡ put (set out o minus) (o + 1) (decimalText n) → length after ≡ length out
-negative-long out after o n h a =
-    let l = length-set out o minus in
-    ap length a ∙ (length-put (set out o minus) (o + 1) (decimalText n) (omega (arith, l, decimal-short n, h)) ∙ l)
+-- a byte, and then the digits, keep the length
+pub negative-long : (out after : List ℕ) (o n s : ℕ) → o + 21 ≤ length out → after ≡ put (set out o s) (o + 1) (decimalText n) → length after ≡ length out
+negative-long out after o n s h a =
+    let l = length-set out o s in
+    ap length a ∙ (length-put (set out o s) (o + 1) (decimalText n) (omega (arith, l, decimal-short n, h)) ∙ l)

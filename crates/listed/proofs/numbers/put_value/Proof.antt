@@ -33,7 +33,7 @@ put-decimal-requires : tie.Need-put-decimal-requires
 put-decimal-requires c κs = omega (arith, length-set (c .before .before .before .before .before .args .out .now) (c .before .before .before .before .before .args .o) 45, c .before .before .before .before .before .pre)
 
 same-length : tie.Need-same-length
-same-length c = negative-long (c .before .before .before .before .before .before .before .before .args .out .now) _ _ (c .before .before .before .natural .result + 1) (c .before .before .before .before .before .before .before .before .pre) (c .before .before .put-decimal .ensures .1)
+same-length c = negative-long (c .before .before .before .before .before .before .before .before .args .out .now) _ _ (c .before .before .before .natural .result + 1) _ (c .before .before .before .before .before .before .before .before .pre) (c .before .before .put-decimal .ensures .1)
 
 returns : tie.Need-returns
 returns c =
