@@ -1,0 +1,31 @@
+-- A sample with its number, or zeros beside a refusal.
+use mir.Syntax.{w64}
+use mir.Val.{SFits}
+use mir.Facts.{toZ-ofZ}
+use Rattle.ffi.specs.Structs.{sampleOut}
+use borrow.Author.Needs.{needs}
+use Rattle.ffi.proofs.frames.sample_out.Statement.{statement}
+use Rattle.ffi.proofs.frames.sample_out.Tie as tie
+
+read-number-requires : tie.Need-read-number-requires
+read-number-requires c κs = search needs
+
+enum-known-reading : tie.Need-enum-known-reading
+enum-known-reading c = search needs
+
+enum-told : tie.Need-enum-told
+enum-told c = search needs
+
+returns : tie.Need-returns
+unfolding sampleOut
+returns c =
+    let fits : SFits w64 (c .before .reading .given .0 .1 .1 .0) = record { sfits = c .known-told .given .1 .1 .0 .1 } in
+    rw (c .before .before .before .read-number .ensures, c .before .reading .given .1, toZ-ofZ fits)
+
+returns-2 : tie.Need-returns-2
+unfolding sampleOut
+returns-2 c = rw (c .before .before .read-number .ensures, c .enum-told .given .1)
+
+pub sample-out-spec : {M : Type 1} → statement M
+sample-out-spec =
+    tie.close (tie.spec read-number-requires enum-known-reading enum-told returns returns-2)

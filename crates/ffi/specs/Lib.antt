@@ -1,0 +1,3 @@
+pub mod Structs
+pub mod Sizes
+pub mod Promises

@@ -1,0 +1,56 @@
+-- The structs that C sees: one definition each, of what the bench answers. The number is 01's.
+use Prim.Native.Nat.{ℕ}
+use mathlib.Core.List.{List}
+use lib.IntN.{pos}
+use lib.ListN.{length}
+use Rattle.maker.specs.Made.{madeNumber}
+use Rattle.maker.specs.declared.make.Made.{Made}
+use Rattle.maker.specs.declared.make.Made.the-variants as made
+use Rattle.table.specs.Answers.{askedRefusal, nameAnswered, placeAnswered}
+use Rattle.table.specs.declared.naming.Asked.{Asked}
+use Rattle.frame.specs.Reading.{readNumber}
+use Rattle.frame.specs.Comparing.{comparedNumber}
+use Rattle.frame.specs.declared.read.Reading.{Reading}
+use Rattle.frame.specs.declared.read.Reading.the-variants as reading
+use Rattle.frame.specs.declared.compare.Compared.{Compared}
+use Rattle.frame.specs.declared.compare.Compared.the-variants as compared
+use Rattle.ffi.specs.declared.sheets.OrbMade.{OrbMade}
+use Rattle.ffi.specs.declared.tables.OrbName.{OrbName}
+use Rattle.ffi.specs.declared.frames.OrbSample.{OrbSample}
+use Rattle.ffi.specs.declared.frames.OrbCompared.{OrbCompared}
+
+-- ---- a sheet
+
+-- the table's length, or the line where the sheet is refused
+unfoldable pub madeAt : Made → ℕ
+madeAt (made.Length n) = n
+madeAt (made.Refused q k) = k
+
+unfoldable pub madeOut : Made → OrbMade
+madeOut m = record { number = madeNumber m; at = madeAt m }
+
+-- ---- a table
+
+-- a part of this table: where the name starts and how long it is, both 0 where refused
+unfoldable pub nameOut : List ℕ → Asked → OrbName
+nameOut b a = record { number = askedRefusal a; start = placeAnswered b a; length = length (nameAnswered b a) }
+
+-- ---- a frame
+
+-- kind 1 is a sample; where refused, all is 0 but the number
+unfoldable pub sampleOut : Reading → OrbSample
+sampleOut (reading.Sample raw width value) =
+    record { number = readNumber (reading.Sample raw width value); kind = 1; width = width; raw = raw; value = value }
+sampleOut (reading.Refused w) =
+    record { number = readNumber (reading.Refused w); kind = 0; width = 0; raw = 0; value = pos 0 }
+
+-- the subframe that differs, else 0
+unfoldable pub differing : Compared → ℕ
+differing (compared.Differs s) = s
+differing compared.Passes = 0
+differing compared.NoTable = 0
+differing compared.OtherCount = 0
+differing compared.HighWord = 0
+
+unfoldable pub comparedOut : Compared → OrbCompared
+comparedOut c = record { number = comparedNumber c; subframe = differing c }

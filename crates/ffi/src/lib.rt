@@ -1,0 +1,4 @@
+// The bench for programs in C: the same calls, with numbers for answers. include/orbelundri.h declares them.
+pub mod frames;
+pub mod sheets;
+pub mod tables;

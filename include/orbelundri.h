@@ -1,0 +1,81 @@
+/* The bench for programs in C, and for whatever links as C does. The archive is target/staticlib/libffi.a.
+ *
+ * Every call answers for every input, keeps nothing between calls, and asks for no memory. What it answers and what it
+ * leaves in the lent bytes and words is proved. `number` is 0, or 01's number of the refusal; a refusal writes nothing.
+ * Lines, parameters, samples and subframes are counted from 1.
+ *
+ * The caller's duties, which no proof covers:
+ *   - a length is true: that many bytes, or words, may be read there, and written where the pointer is not const;
+ *     with length 0 the pointer may be any, also null;
+ *   - words are aligned for uint16_t;
+ *   - what a call writes overlaps nothing else it is lent: the sheet and the table of orb_make, the table and the words
+ *     of orb_place;
+ *   - nobody changes what is lent while a call runs;
+ *   - the stack has room: 64 kilobytes for orb_make, 8 for each other call (46 and 3 were measured).
+ */
+#ifndef ORBELUNDRI_H
+#define ORBELUNDRI_H
+
+#include <stddef.h>
+#include <stdint.h>
+
+#ifdef __cplusplus
+extern "C" {
+#endif
+
+/* number 0: at is the table's length. Else at is the line, or 0 where no line is named. */
+typedef struct {
+    uint32_t number;
+    uint32_t at;
+} orb_made;
+
+/* number 0: kind is 1, a sample of so many bits. Else all else is 0. */
+typedef struct {
+    uint32_t number;
+    uint32_t kind;
+    uint32_t width;
+    uint32_t raw;
+    int64_t value;
+} orb_sample;
+
+/* number 24: subframe is the first that differs. Else it is 0. */
+typedef struct {
+    uint32_t number;
+    uint32_t subframe;
+} orb_compared;
+
+/* number 0: the name is the length bytes of the table lent from start on, not a copy. Else both are 0. */
+typedef struct {
+    uint32_t number;
+    size_t start;
+    size_t length;
+} orb_name;
+
+/* The sheet's table at the front of the bytes lent for it; later bytes stay. Refuses with 1 to 17. */
+orb_made orb_make(const uint8_t *sheet, size_t sheet_len, uint8_t *table, size_t table_len);
+
+/* Whether the bytes are a table, whoever made them: 0 or 18. The length is the table's own. */
+uint32_t orb_check(const uint8_t *table, size_t table_len);
+
+/* One sample of a frame. Refuses with 18, 21, 22, 19 or 20, tested in this order. */
+orb_sample orb_read(const uint8_t *table, size_t table_len, const uint16_t *words, size_t words_len,
+                    uint32_t parameter, uint32_t sample);
+
+/* A raw value placed into a frame: 0, or 18, 21, 22, 19, 20 or 23, tested in this order. Other bits stay. */
+uint32_t orb_place(const uint8_t *table, size_t table_len, uint16_t *words, size_t words_len, uint32_t parameter,
+                   uint32_t sample, uint64_t value);
+
+/* The frame against its record identifiers. Refuses with 18, 19, 20 or 24, tested in this order. */
+orb_compared orb_compare(const uint8_t *table, size_t table_len, const uint16_t *words, size_t words_len);
+
+/* The name of the parameter with this number. Refuses with 18 or 21. */
+orb_name orb_name_of(const uint8_t *table, size_t table_len, uint32_t parameter);
+
+/* The name of the parameter with this mnemonic. Refuses with 18 or 21; an empty mnemonic is 21. */
+orb_name orb_name_by(const uint8_t *table, size_t table_len, const uint8_t *mnemonic, size_t mnemonic_len);
+
+#ifdef __cplusplus
+}
+#endif
+
+#endif
