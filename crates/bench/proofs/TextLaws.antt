@@ -1,11 +1,11 @@
 -- Whether a text fits, and that a name is short. Assumes nothing.
-use mathlib.Core.Path.{_≡_, refl, sym, ap, subst, _∙_}
-use mathlib.Core.Bool.{Bool, true, false, cond, not, _&&_}
+use mathlib.Core.Path.{_≡_, refl, sym, ap, _∙_}
+use mathlib.Core.Bool.{Bool, true, false, cond, _&&_}
 use mathlib.Core.List.{List, []}
 use Prim.Native.Nat.{ℕ, _+_, _-_, _/_, _%_, _≤_, _<_}
 use native.Mathlib.Omega.{arith}
 use borrow.Author.Tests.{le-leb, lt-leb, leb-true, eq-eqb, ne-eqb}
-use lib.Dec.{eqb, leb}
+use lib.Dec.{leb}
 use lib.IntN.{ℤ}
 use lib.ListN.{length}
 use Rattle.lay.specs.Bytes.{put}
@@ -18,13 +18,12 @@ use Rattle.table.specs.Answers.{numbered, askedNumber, nameAnswered}
 use Rattle.table.specs.declared.naming.Asked.the-variants.{Parameter, NoTable, NoParameter}
 use Rattle.table.proofs.Accepting.{accepted-ruled}
 use Rattle.frame.specs.Reading.{readOf}
-use Rattle.frame.specs.declared.read.Reading.{Reading}
 use Rattle.frame.specs.declared.read.Reading.the-variants as reading
 use Rattle.frame.specs.declared.want.Wanted.{Wanted}
 use Rattle.listed.specs.Lines.{rowText}
 use Rattle.listed.specs.Listing.{wordsOf}
 use Rattle.listed.proofs.RowLaws.{name-is, name-short}
-use Rattle.bench.specs.Texts.{Fills, rowOf, rowFor, wholeWords, WordsFill}
+use Rattle.bench.specs.Texts.{Fills, rowOf, rowFor, WordsFill}
 
 -- ---- a text
 

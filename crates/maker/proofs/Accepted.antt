@@ -13,7 +13,7 @@ use Rattle.lineforms.specs.Forms.{dueAfter}
 use Rattle.lineforms.specs.declared.due.Due.{Due}
 use Rattle.lineforms.specs.declared.due.Due.the-variants as due
 use Rattle.model.specs.Content.{Content, noParameter}
-use Rattle.gather.specs.Book.{Book, emptyBook, grow, spread, contentOf}
+use Rattle.gather.specs.Book.{Book, emptyBook, grow, contentOf}
 use Rattle.gather.specs.Ruling.{Accepted, Refused, longestSheet, formAt, opens, run, judgeOf}
 use Rattle.gather.proofs.Sound.{Between, Sound}
 use Rattle.gather.proofs.Steps.{sound-step}

@@ -1,0 +1,38 @@
+-- From the sheet to the value: of any bench that meets the demands. Assumes nothing.
+use mathlib.Core.Path.{_≡_, sym, ap, subst, _∙_}
+use mathlib.Core.Bool.{true}
+use mathlib.Core.List.{List}
+use Prim.Native.Nat.{ℕ}
+use lib.ListN.{take}
+use Rattle.sample.specs.Joining.{join, width}
+use Rattle.model.specs.Content.{Content}
+use Rattle.model.specs.Frame.{meets}
+use Rattle.model.specs.View.{view}
+use Rattle.gather.specs.Ruling.{Accepted, judgeOf}
+use Rattle.maker.specs.declared.make.Made.the-variants as made
+use Rattle.table.specs.declared.check.Checked.the-variants.{Table}
+use Rattle.frame.specs.declared.read.Reading.{Reading}
+use Rattle.frame.specs.declared.read.Reading.the-variants.{Sample}
+use Rattle.demands.specs.Calls.{Calls}
+use Rattle.demands.specs.Demands.{Listed, componentsOf, meaning, Demands}
+
+-- what a read of sample s of parameter p must answer, by what the sheet says
+abbrev pub readBy : Content → List ℕ → ℕ → ℕ → Reading
+readBy c f p s = Sample (join f (componentsOf c p s)) (width (componentsOf c p s)) (meaning c p s (join f (componentsOf c p s)))
+
+pub record EndToEnd (B : Calls) (s l : List ℕ) (n : ℕ) (c : Content) : Type 0 where
+  -- the table passes the check
+  pub passes : B .check (take n (B .made s l)) ≡ Table
+  -- and every read by it of a frame that fits is the joining, lowest first and signed as said, of what the sheet lists
+  pub reads : (f : List ℕ) (p q : ℕ) → meets c f ≡ true → Listed c p q → B .read (take n (B .made s l)) f p q ≡ readBy c f p q
+
+module _ (B : Calls) (D : Demands B) where
+  pub end-to-end : (s l : List ℕ) (n : ℕ) (c : Content) → judgeOf s ≡ Accepted c → B .make s l ≡ made.Length n → EndToEnd B s l n c
+  end-to-end s l n c e h =
+      let t = take n (B .made s l) in
+      let v : view (take n (B .made s l)) ≡ c = D .two .says s l n c h e in
+      let k = D .three .passes s l n h in
+      record {
+        passes = k;
+        reads = λ f p q m a. subst (λ (d : Content). B .read (take n (B .made s l)) f p q ≡ readBy d f p q) v (D .two .joined (take n (B .made s l)) f p q k (ap (λ (d : Content). meets d f) v ∙ m) (subst (λ (d : Content). Listed d p q) (sym v) a));
+      }

@@ -1,0 +1,6 @@
+pub mod Meeting
+pub mod Ours
+pub mod Determined
+pub mod EndToEnd
+pub mod Useless
+pub mod AllExamples

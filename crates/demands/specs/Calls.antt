@@ -1,0 +1,30 @@
+-- The calls of any bench, ours or another's: what each answers, and what it leaves of the bytes and words it was lent.
+use Prim.Native.Nat.{ℕ}
+use mathlib.Core.List.{List}
+use Rattle.maker.specs.declared.make.Made.{Made}
+use Rattle.table.specs.declared.check.Checked.{Checked}
+use Rattle.frame.specs.declared.read.Reading.{Reading}
+use Rattle.frame.specs.declared.place.Placed.{Placed}
+use Rattle.frame.specs.declared.compare.Compared.{Compared}
+use Rattle.bench.specs.Promises.{Makes, Checks, Reads, Places, Compares}
+
+pub record Calls : Type 0 where
+  -- sheet, lent bytes
+  pub make : List ℕ → List ℕ → Made
+  pub made : List ℕ → List ℕ → List ℕ
+  -- table
+  pub check : List ℕ → Checked
+  -- table, words, parameter, sample
+  pub read : List ℕ → List ℕ → ℕ → ℕ → Reading
+  -- and a value
+  pub place : List ℕ → List ℕ → ℕ → ℕ → ℕ → Placed
+  pub placed : List ℕ → List ℕ → ℕ → ℕ → ℕ → List ℕ
+  pub compare : List ℕ → List ℕ → Compared
+
+-- they keep the promises that the crate bench makes
+pub record Kept (B : Calls) : Type 0 where
+  pub makes : (s l : List ℕ) → Makes s l (B .make s l) (B .made s l)
+  pub checks : (t : List ℕ) → Checks t (B .check t)
+  pub reads : (t f : List ℕ) (p s : ℕ) → Reads t f p s (B .read t f p s)
+  pub places : (t f : List ℕ) (p s v : ℕ) → Places t f p s v (B .place t f p s v) (B .placed t f p s v)
+  pub compares : (t f : List ℕ) → Compares t f (B .compare t f)
