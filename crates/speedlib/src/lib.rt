@@ -1,0 +1,113 @@
+// All samples of a frame by a table that is checked once: what speed/ compares with plain C.
+use frame::fit::Fit;
+use frame::fit::fit_of;
+use frame::read::Reading;
+use frame::read::sample_in;
+use rules::bases::Bases;
+use rules::bases::bases_of;
+use stored::items::counts_of;
+use stored::items::parameter_at;
+use table::check::is_table;
+ghost use mathlib.Core.Path.{_≡_};
+ghost use Prim.Native.Nat.{_<_};
+ghost use lib.ListN.{length};
+ghost use Rattle.model.specs.Frame.{frameWords};
+ghost use Rattle.model.specs.Stored.{parametersIn, sampleCountIn};
+ghost use Rattle.model.specs.View.{view};
+ghost use Rattle.rules.specs.Ruled.{Ruled, BasesOf};
+
+// Sample j of parameter i, both counted from 0.
+fn value_in(t: &[u8], words: &[u16], i: usize, j: usize, bases: Bases) -> i64
+    requires { ⌜ Ruled (now t) ⌝ }
+    requires { ⌜ BasesOf (now t) bases ⌝ }
+    requires { ⌜ i < parametersIn (now t) ⌝ }
+    requires { ⌜ j < sampleCountIn (now t) i ⌝ }
+    requires { ⌜ length (now words) ≡ frameWords (view (now t)) ⌝ }
+{
+    match sample_in(t, words, i, j, bases) {
+        Reading::Sample {
+            raw: _,
+            width: _,
+            value,
+        } => value,
+        Reading::Refused(_) => 0,
+    }
+}
+
+// The samples of parameter i, from `at` on, as far as there is room; answers where they end.
+fn parameter_values(
+    t: &[u8],
+    words: &[u16],
+    i: usize,
+    bases: Bases,
+    values: &mut [i64],
+    at: usize,
+) -> usize
+    requires { ⌜ Ruled (now t) ⌝ }
+    requires { ⌜ BasesOf (now t) bases ⌝ }
+    requires { ⌜ i < parametersIn (now t) ⌝ }
+    requires { ⌜ length (now words) ≡ frameWords (view (now t)) ⌝ }
+{
+    let e = parameter_at(t, i);
+    let count = e.count;
+    let mut to = at;
+    let mut j = 0;
+    while j < count {
+        if values.len() <= to {
+            return to;
+        }
+        values[to] = value_in(t, words, i, j, bases);
+        to += 1;
+        j += 1;
+    }
+    to
+}
+
+// The samples of every parameter.
+fn all_values(t: &[u8], words: &[u16], bases: Bases, values: &mut [i64]) -> usize
+    requires { ⌜ Ruled (now t) ⌝ }
+    requires { ⌜ BasesOf (now t) bases ⌝ }
+    requires { ⌜ length (now words) ≡ frameWords (view (now t)) ⌝ }
+{
+    let counts = counts_of(t);
+    let mut at = 0;
+    let mut i = 0;
+    while i < counts.parameters {
+        at = parameter_values(t, words, i, bases, values, at);
+        i += 1;
+    }
+    at
+}
+
+// A frame, with its words judged; none of its samples where it is refused.
+fn frame_values(t: &[u8], words: &[u16], bases: Bases, values: &mut [i64]) -> usize
+    requires { ⌜ Ruled (now t) ⌝ }
+    requires { ⌜ BasesOf (now t) bases ⌝ }
+{
+    match fit_of(t, words, bases) {
+        Fit::Fits => all_values(t, words, bases, values),
+        Fit::WrongCount => 0,
+        Fit::TooHigh => 0,
+    }
+}
+
+// The frame so many times over, after one check; answers how many samples it has, none where table or frame is refused.
+#[no_mangle]
+pub extern "C" fn speed_read_all(
+    table: &[u8],
+    words: &[u16],
+    values: &mut [i64],
+    times: u32,
+) -> usize {
+    if !is_table(table) {
+        return 0;
+    }
+    let bases = bases_of(table);
+    let mut count = 0;
+    let mut n = 0;
+    while n < times {
+        count = frame_values(table, words, bases, values);
+        n += 1;
+    }
+    count
+}

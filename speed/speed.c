@@ -1,0 +1,241 @@
+/* The proved functions and the plain C side by side, on the same inputs, in one run: only the ratio counts. Every answer,
+ * and every byte written, is held to be the same before anything is timed. */
+#include "calls.h"
+#include "plain.h"
+
+/* The header has no call for all samples of a frame: crates/speedlib has one, for measuring alone. Without that crate its
+ * rows are left out. */
+#ifdef ALL_SAMPLES
+size_t speed_read_all(const uint8_t *table, size_t table_len, const uint16_t *words, size_t words_len, int64_t *values,
+                      size_t room, uint32_t times);
+static const bool all_samples = true;
+#else
+#define speed_read_all plain_read_all
+static const bool all_samples = false;
+#endif
+
+enum { ROUNDS = 31, FRAMES = 32, LENT = 70000, VALUES = 4096, WORDS = 1024 };
+
+static char sheet[70000];
+static size_t sheet_length;
+static uint8_t proved_table[LENT], plain_table[LENT];
+static size_t table_length;
+static uint16_t words[WORDS];
+static size_t word_count;
+static int64_t proved_values[VALUES], plain_values[VALUES];
+static uint32_t last_parameter, last_sample;
+static int differences;
+static uint64_t kept;
+
+/* ---- the sheets ---- */
+
+static void say(const char *text) { sheet_length += (size_t)sprintf(sheet + sheet_length, "%s", text); }
+
+static void opening(uint32_t count) {
+    sheet_length = 0;
+    word_count = count;
+    say("HEADER:\n2.0,A,TypeX,,,001,,,True,,,1,,\nRECORD:\n");
+    sheet_length += (size_t)sprintf(sheet + sheet_length, "12,%u,,,1.0\n", count);
+    say("PARAMETER:\nSync,,,True,,,\n1,1,0,1-12\n0\n\nFalse,,,,\n583,,,\n,,\n\n\n");
+}
+
+static void wall(void) {
+    opening(4);
+    say("PARAMETER:\nPitch,PCH,,False,,,\n1,2,0,1-4\n1,4,0,2-3\n0.5\n\nTrue,,,deg,\n,,,\n,,\n\n\n");
+}
+
+static void named(uint32_t i) {
+    sheet_length += (size_t)sprintf(sheet + sheet_length, "PARAMETER:\nN%03u,M%03u,,False,,,\n", i, i);
+}
+
+static void sampled(uint32_t word, uint32_t low, const char *time) {
+    sheet_length += (size_t)sprintf(sheet + sheet_length, "1,%u,0,%u-%u\n%s\n", word, low, low + 3, time);
+}
+
+static void closed(void) { say("\nTrue,,,deg,\n,,,\n,,\n\n\n"); }
+
+/* So many parameters of one sample each. */
+static void many(uint32_t parameters, uint32_t count) {
+    opening(count);
+    for (uint32_t i = 1; i < parameters; i++) {
+        named(i);
+        sampled(2 + i % (count - 1), 1 + i % 9, "0.5");
+        closed();
+    }
+}
+
+/* Sources of the last parameter fill the sheet. */
+static void filled(size_t length) {
+    sheet_length--;
+    while (sheet_length + 45 <= length) {
+        say(",a source's text,0123456789\n\n");
+    }
+    say("\n");
+}
+
+/* 4,096 samples in all, 64 to a parameter: short lines, for the sheet has 65,536 bytes at most. */
+static void sampled_much(uint32_t count) {
+    uint32_t samples = 1;
+    opening(count);
+    for (uint32_t i = 1; samples < 4096; i++) {
+        named(i);
+        for (uint32_t j = 0; j < 64 && samples < 4096; j++, samples++) {
+            sampled(2 + samples % (count - 1), 1 + samples % 9, "0");
+        }
+        closed();
+    }
+}
+
+/* ---- the same answers ---- */
+
+static void same(bool is_same, const char *what, const char *size) {
+    if (!is_same) {
+        printf("DIFFERS: %s, %s\n", what, size);
+        differences++;
+    }
+}
+
+static bool same_sample(orb_sample a, orb_sample b) {
+    return a.number == b.number && a.kind == b.kind && a.width == b.width && a.raw == b.raw && a.value == b.value;
+}
+
+static void same_made(const char *size) {
+    memset(proved_table, 165, LENT);
+    memset(plain_table, 165, LENT);
+    orb_made a = orb_make((uint8_t *)sheet, sheet_length, proved_table, LENT);
+    orb_made b = plain_make((uint8_t *)sheet, sheet_length, plain_table, LENT);
+    same(a.number == 0 && b.number == 0 && a.at == b.at, "make", size);
+    same(memcmp(proved_table, plain_table, LENT) == 0, "make, bytes", size);
+    table_length = a.at;
+    same(orb_check(proved_table, table_length) == 0, "check", size);
+    same(plain_check(proved_table, table_length) == 0, "check", size);
+}
+
+static void same_values(const char *size) {
+    size_t a = speed_read_all(proved_table, table_length, words, word_count, proved_values, VALUES, 1);
+    size_t b = plain_read_all(proved_table, table_length, words, word_count, plain_values, VALUES, 1);
+    same(a == get2(proved_table + 8) && a == b, "all samples", size);
+    same(memcmp(proved_values, plain_values, sizeof plain_values) == 0, "all samples, values", size);
+}
+
+/* Sample after sample, by the numbers that the table gives; every 37th, for each read checks the table anew. */
+static void same_read(const char *size) {
+    const uint8_t *t = proved_table;
+    uint32_t at = 0;
+    last_parameter = get2(t + 6);
+    for (uint32_t i = 1; i <= last_parameter; i++) {
+        last_sample = get2(t + get4(t + 20) + 16 * (i - 1) + 10);
+        for (uint32_t j = 1; j <= last_sample; j++, at++) {
+            if (at % 37 != 0 && at + 1 != get2(t + 8)) {
+                continue;
+            }
+            orb_sample a = orb_read(t, table_length, words, word_count, i, j);
+            orb_sample b = plain_read(t, table_length, words, word_count, i, j);
+            same(same_sample(a, b) && a.number == 0, "one read", size);
+            same(!all_samples || a.value == proved_values[at], "one read and all samples", size);
+        }
+    }
+}
+
+/* ---- the times ---- */
+
+static double now(void) {
+    calls_time t;
+    clock_gettime(1, &t);
+    return (double)t.seconds * 1e6 + (double)t.nanoseconds / 1e3;
+}
+
+typedef void job(void);
+
+static void proved_make(void) { kept += orb_make((uint8_t *)sheet, sheet_length, proved_table, LENT).at; }
+static void c_make(void) { kept += plain_make((uint8_t *)sheet, sheet_length, plain_table, LENT).at; }
+static void proved_check(void) { kept += orb_check(proved_table, table_length); }
+static void c_check(void) { kept += plain_check(proved_table, table_length); }
+static void proved_all(uint32_t times) {
+    kept += speed_read_all(proved_table, table_length, words, word_count, proved_values, VALUES, times);
+}
+static void c_all(uint32_t times) {
+    kept += plain_read_all(proved_table, table_length, words, word_count, plain_values, VALUES, times);
+}
+static void proved_first(void) { proved_all(1); }
+static void c_first(void) { c_all(1); }
+static void proved_frames(void) { proved_all(1 + FRAMES); }
+static void c_frames(void) { c_all(1 + FRAMES); }
+static void proved_read(void) {
+    kept += orb_read(proved_table, table_length, words, word_count, last_parameter, last_sample).raw;
+}
+static void c_read(void) {
+    kept += plain_read(proved_table, table_length, words, word_count, last_parameter, last_sample).raw;
+}
+
+static double per_call(job *f, uint32_t calls) {
+    double from = now();
+    for (uint32_t i = 0; i < calls; i++) {
+        f();
+    }
+    return (now() - from) / calls;
+}
+
+/* Calls that take some milliseconds together. */
+static uint32_t calls_of(job *f) {
+    double once = per_call(f, 1);
+    return once > 3000 ? 1 : (uint32_t)(3000 / once) + 1;
+}
+
+/* The best of the rounds, in which the two take turns: what else the machine does slows both. */
+static void timed(job *proved, job *plain, double *a, double *b) {
+    uint32_t p = calls_of(proved), q = calls_of(plain);
+    *a = *b = 1e18;
+    for (int r = 0; r < ROUNDS; r++) {
+        double x = per_call(proved, p), y = per_call(plain, q);
+        *a = x < *a ? x : *a;
+        *b = y < *b ? y : *b;
+    }
+}
+
+static void line(const char *what, const char *size, double a, double b, const char *goal) {
+    printf("| %-25s | %-21s | %10.2f | %10.2f | %6.2f | %-4s |\n", what, size, a, b, a / b, goal);
+}
+
+static void measured_frames(const char *size) {
+    double a, b, c, d;
+    same_values(size);
+    timed(proved_first, c_first, &a, &b);
+    line("check and all samples", size, a, b, "");
+    timed(proved_frames, c_frames, &c, &d);
+    line("all samples, once checked", size, (c - a) / FRAMES, (d - b) / FRAMES, "1.25");
+}
+
+static void measured(const char *size) {
+    double a, b;
+    for (size_t i = 0; i < word_count; i++) {
+        words[i] = (uint16_t)(i * 2654435761u >> 7 & 4095);
+    }
+    same_made(size);
+    timed(proved_make, c_make, &a, &b);
+    line("make", size, a, b, "4");
+    timed(proved_check, c_check, &a, &b);
+    line("check", size, a, b, "1.5");
+    if (all_samples) {
+        measured_frames(size);
+    }
+    same_read(size);
+    timed(proved_read, c_read, &a, &b);
+    line("one read with its check", size, a, b, "");
+}
+
+int main(void) {
+    printf("| %-25s | %-21s | %10s | %10s | %6s | %-4s |\n", "what", "size", "proved us", "plain us", "ratio", "goal");
+    printf("|---|---|---|---|---|---|\n");
+    wall();
+    measured("wall, 2 parameters");
+    many(120, 64);
+    measured("8 KB, 120 parameters");
+    many(512, 512);
+    filled(65536);
+    measured("64 KB, 512 parameters");
+    sampled_much(64);
+    measured("4,096 samples");
+    printf("%d differences\n", differences);
+    return differences != 0 || kept == 0;
+}
