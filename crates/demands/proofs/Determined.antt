@@ -1,4 +1,4 @@
--- Each promise of bench determines the answer and all that is lent: two answers that it allows are equal. Assumes nothing.
+-- Each promise of bench, and of the C interface, determines the answer and all that is lent: two answers that it allows are equal. Assumes nothing.
 use mathlib.Core.Path.{_≡_, sym, _∙_}
 use mathlib.Core.List.{List}
 use Prim.Native.Nat.{ℕ}
@@ -10,6 +10,11 @@ use Rattle.frame.specs.declared.place.Placed.{Placed}
 use Rattle.frame.specs.declared.compare.Compared.{Compared}
 use Rattle.bench.specs.Promises.{Makes, MadeNumbered, Checks, CheckNumbered, Names, NameNumbered, NamesBy, NameByNumbered, Reads, ReadNumbered, Places, PlaceNumbered, Compares, CompareNumbered}
 use Rattle.bench.specs.Texts.{Fills, WordsFill}
+use Rattle.ffi.specs.Promises.{MakesOut, ChecksOut, NamesOut, NamesByOut, ReadsOut, PlacesOut, ComparesOut}
+use Rattle.ffi.specs.declared.sheets.OrbMade.{OrbMade}
+use Rattle.ffi.specs.declared.tables.OrbName.{OrbName}
+use Rattle.ffi.specs.declared.frames.OrbSample.{OrbSample}
+use Rattle.ffi.specs.declared.frames.OrbCompared.{OrbCompared}
 
 both : {A : Type 0} {x y z : A} → x ≡ z → y ≡ z → x ≡ y
 both p q = p ∙ sym q
@@ -69,3 +74,26 @@ fills-one x l a b need i j h k = (both (h .0) (k .0), both (h .1) (k .1))
 
 pub words-one : (x l a b : List ℕ) (i j : ℕ) → WordsFill x l i a → WordsFill x l j b → (i ≡ j) × (a ≡ b)
 words-one x l a b i j h k = (both (h .0) (k .0), both (h .1) (k .1))
+
+-- ---- the C interface
+
+pub makes-out-one : (s l a b : List ℕ) (m n : OrbMade) → MakesOut s l m a → MakesOut s l n b → (m ≡ n) × (a ≡ b)
+makes-out-one s l a b m n h k = (both (h .0) (k .0), both (h .1) (k .1))
+
+pub checks-out-one : (t : List ℕ) (i j : ℕ) → ChecksOut t i → ChecksOut t j → i ≡ j
+checks-out-one t i j h k = both h k
+
+pub names-out-one : (t : List ℕ) (p : ℕ) (x y : OrbName) → NamesOut t p x → NamesOut t p y → x ≡ y
+names-out-one t p x y h k = both h k
+
+pub names-by-out-one : (t m : List ℕ) (x y : OrbName) → NamesByOut t m x → NamesByOut t m y → x ≡ y
+names-by-out-one t m x y h k = both h k
+
+pub reads-out-one : (t f : List ℕ) (p s : ℕ) (x y : OrbSample) → ReadsOut t f p s x → ReadsOut t f p s y → x ≡ y
+reads-out-one t f p s x y h k = both h k
+
+pub places-out-one : (t f a b : List ℕ) (p s v i j : ℕ) → PlacesOut t f p s v i a → PlacesOut t f p s v j b → (i ≡ j) × (a ≡ b)
+places-out-one t f a b p s v i j h k = (both (h .0) (k .0), both (h .1) (k .1))
+
+pub compares-out-one : (t f : List ℕ) (x y : OrbCompared) → ComparesOut t f x → ComparesOut t f y → x ≡ y
+compares-out-one t f x y h k = both h k
