@@ -1,6 +1,6 @@
 -- The rows of a parameter by what its table stores. Assumes nothing.
 use mathlib.Core.Path.{_≡_, refl, sym, ap, ap₂, subst, _∙_}
-use mathlib.Core.List.{List, [], _∷_, _++_}
+use mathlib.Core.List.{List}
 use Prim.Native.Nat.{ℕ, _+_, _*_, _≤_, _<_}
 use native.Mathlib.Omega.{arith}
 use native.Mathlib.Numerals.{add-one}
@@ -31,32 +31,16 @@ use Rattle.frame.specs.Reading.{rawOf, widthIs, valueOf, sampleRead}
 use Rattle.frame.specs.declared.read.Reading.{Reading}
 use Rattle.frame.specs.declared.read.Reading.the-variants as reading
 use Rattle.frame.specs.declared.want.Wanted.{Wanted}
-use Rattle.listed.specs.Decimals.{decimalText, valueText}
-use Rattle.listed.specs.Lines.{comma, endByte, rowText}
+use Rattle.listed.specs.Lines.{rowText}
 use Rattle.listed.specs.Listing.{sampleRow, parameterRows}
 use Rattle.listed.proofs.DecimalLaws.{decimal-short}
-use Rattle.listed.proofs.LineLaws.{Step, then-step, last-short, front-counts}
+use Rattle.listed.proofs.LineLaws.{Step, then-step, value-short, front-counts}
 
 -- ---- a row's length
 
 row-short : (name : List ℕ) (s w r : ℕ) (v : ℤ) → length (rowText name s w r v) ≤ length name + 86
 unfolding rowText
-row-short name s w r v =
-    let d = valueText v ++ (endByte ∷ []) in
-    let c = decimalText r ++ (comma ∷ d) in
-    let b = decimalText w ++ (comma ∷ c) in
-    let a = decimalText s ++ (comma ∷ b) in
-    omega (
-      arith,
-      length-append name (comma ∷ a),
-      length-append (decimalText s) (comma ∷ b),
-      length-append (decimalText w) (comma ∷ c),
-      length-append (decimalText r) (comma ∷ d),
-      last-short v endByte,
-      decimal-short s,
-      decimal-short w,
-      decimal-short r,
-    )
+row-short name s w r v = simp length-append (omega (arith, value-short v, decimal-short s, decimal-short w, decimal-short r))
 
 -- the first j rows of parameter i are there, and end at at
 pub record Rows (b : List ℕ) (i : ℕ) (f out₀ out : List ℕ) (at j : ℕ) : Type 0 where
@@ -64,6 +48,20 @@ pub record Rows (b : List ℕ) (i : ℕ) (f out₀ out : List ℕ) (at j : ℕ) 
   pub step : Step out₀ 0 (flat j (sampleRow (view b) f i)) at out
   pub most : at ≤ 150 * j
   pub long : length out ≡ length out₀
+
+-- ---- what a reading holds
+
+abbrev raw-in : Reading → ℕ
+raw-in (reading.Sample r w v) = r
+raw-in (reading.Refused q) = 0
+
+abbrev width-in : Reading → ℕ
+width-in (reading.Sample r w v) = w
+width-in (reading.Refused q) = 0
+
+abbrev value-in : ℤ → Reading → ℤ
+value-in z (reading.Sample r w v) = v
+value-in z (reading.Refused q) = z
 
 -- ---- what a table stores of parameter i
 
@@ -107,27 +105,11 @@ module _ (b : List ℕ) (h : Ruled b) (i : ℕ) (l : i < parametersIn b) where
         go true = record { sfits = lt-of-lt-of-le (signed-mag (widthIs (view b) i j) (rawOf (view b) f i j) width-least (raw-below (view b) f i j)) (pow-mono {j = 63} (omega (arith, width-most))) }
         go false = record { sfits = lt-of-lt-of-le (raw-below (view b) f i j) (pow-mono {j = 63} (omega (arith, width-most))) }
 
-    abbrev value-of : ℤ → Reading → ℤ
-    value-of z (reading.Sample r w v) = v
-    value-of z (reading.Refused q) = z
-
     pub value-back : (r w : ℕ) (v : ℤ) → reading.Sample r w v ≡ sampleRead (view b) f i j → toZ w64 (ofZ w64 v) ≡ v
     unfolding sampleRead
-    value-back r w v q = toZ-ofZ w64 v (subst (SFits w64) (sym (ap (value-of v) q)) value-fits)
+    value-back r w v q = toZ-ofZ w64 v (subst (SFits w64) (sym (ap (value-in v) q)) value-fits)
 
   -- ---- a sample that is read is a row
-
-  abbrev raw-in : Reading → ℕ
-  raw-in (reading.Sample r w v) = r
-  raw-in (reading.Refused q) = 0
-
-  abbrev width-in : Reading → ℕ
-  width-in (reading.Sample r w v) = w
-  width-in (reading.Refused q) = 0
-
-  abbrev value-in : ℤ → Reading → ℤ
-  value-in z (reading.Sample r w v) = v
-  value-in z (reading.Refused q) = z
 
   pub read-row : (f out after : List ℕ) (o e j r w : ℕ) (v : ℤ) (name : List ℕ) → reading.Sample r w v ≡ sampleRead (view b) f i j → name ≡ nameIn b i → Step out o (rowText name (j + 1) w r v) e after → Step out o (sampleRow (view b) f i j) e after
   unfolding sampleRead sampleRow
