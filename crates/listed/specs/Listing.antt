@@ -7,6 +7,8 @@ use Rattle.lay.specs.Below.{tab, flat}
 use Rattle.lay.specs.Bytes.{numAt}
 use Rattle.model.specs.Content.{Content, parameter}
 use Rattle.frame.specs.Reading.{rawOf, widthIs, valueOf}
+use Rattle.frame.specs.declared.fit.Fit.{Fit}
+use Rattle.frame.specs.declared.fit.Fit.the-variants.{Fits, WrongCount, TooHigh}
 use Rattle.listed.specs.Decimals.{decimalText}
 use Rattle.listed.specs.Lines.{endByte, rowText}
 
@@ -26,6 +28,12 @@ parameterRows c f i = flat (length (parameter c i .samples)) (sampleRow c f i)
 unfoldable pub refusedText : ℕ → ℕ → List ℕ
 refusedText n l =
     (114 ∷ 101 ∷ 102 ∷ 117 ∷ 115 ∷ 101 ∷ 100 ∷ []) ++ (32 ∷ (decimalText n ++ (32 ∷ (decimalText l ++ (endByte ∷ [])))))
+
+-- "19 word count of the frame differs", "20 any word of the frame at or above two to its bits"; 0 where it fits
+unfoldable pub fitNumber : Fit → ℕ
+fitNumber Fits = 0
+fitNumber WrongCount = 19
+fitNumber TooHigh = 20
 
 -- "words of two bytes, low first"
 unfoldable pub wordsOf : List ℕ → List ℕ

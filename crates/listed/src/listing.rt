@@ -2,6 +2,7 @@
 use crate::rows::put_field;
 use crate::rows::put_part;
 use crate::rows::put_row;
+use frame::fit::Fit;
 use frame::read::Reading;
 use frame::read::sample_in;
 use lay::put::put_text;
@@ -17,7 +18,7 @@ ghost use Rattle.model.specs.Frame.{frameWords};
 ghost use Rattle.model.specs.Stored.{parametersIn, sampleCountIn};
 ghost use Rattle.model.specs.View.{view};
 ghost use Rattle.rules.specs.Ruled.{Ruled, BasesOf};
-ghost use Rattle.listed.specs.Listing.{headingText, sampleRow, parameterRows, refusedText, wordsOf};
+ghost use Rattle.listed.specs.Listing.{headingText, sampleRow, parameterRows, refusedText, fitNumber, wordsOf};
 
 // Answers where it ends, as all of these do.
 pub fn put_heading(out: &mut [u8]) -> usize
@@ -38,6 +39,17 @@ pub fn put_refused(out: &mut [u8], number: u32, line: u32) -> usize
     let a = put_part(out, 0, b"refused", 32);
     let b = put_field(out, a, number as u64, 32);
     put_field(out, b, line as u64, 10)
+}
+
+// 01's number of a frame's fit: 0, 19 or 20.
+pub fn fit_number(fit: Fit) -> u32
+    ensures { λ n. ⌜ n ≡ fitNumber fit ⌝ }
+{
+    match fit {
+        Fit::Fits => 0,
+        Fit::WrongCount => 19,
+        Fit::TooHigh => 20,
+    }
 }
 
 // The row of sample j of parameter i, both counted from 0, at o.

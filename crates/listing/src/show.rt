@@ -1,17 +1,19 @@
 // A frame shown by a table. The table is checked although it was just made, and the frame once: the rows rest on both.
 use crate::say::refused;
 use crate::say::text;
+use bench::tables::check_number;
+use bench::texts::words_of;
 use frame::fit::Fit;
 use frame::fit::fit_of;
+use listed::listing::fit_number;
 use listed::listing::put_heading;
 use listed::listing::put_parameter;
-use listed::listing::put_words;
 use rules::bases::Bases;
 use rules::bases::bases_of;
 use stored::items::counts_of;
+use table::check::Checked;
 use table::check::is_table;
 ghost use mathlib.Core.Path.{_≡_};
-ghost use Prim.Native.Nat.{_*_, _≤_};
 ghost use lib.ListN.{length};
 ghost use Rattle.model.specs.Frame.{frameWords};
 ghost use Rattle.model.specs.View.{view};
@@ -42,26 +44,25 @@ fn heading() {
 // 18, 19 and 20, or the heading and the rows.
 fn fitted(t: &[u8], words: &[u16]) {
     if !is_table(t) {
-        return refused(18, 0);
+        return refused(check_number(Checked::NotTable), 0);
     }
     let bases = bases_of(t);
-    match fit_of(t, words, bases) {
+    let fit = fit_of(t, words, bases);
+    match fit {
         Fit::Fits => {
             heading();
             rows(t, words, bases);
         }
-        Fit::WrongCount => refused(19, 0),
-        Fit::TooHigh => refused(20, 0),
+        Fit::WrongCount => refused(fit_number(fit), 0),
+        Fit::TooHigh => refused(fit_number(fit), 0),
     }
 }
 
-// An odd byte is 19.
-pub fn show(t: &[u8], frame: &[u8], words: &mut [u16])
-    requires { ⌜ length (now frame) ≤ 2 * length (now words) ⌝ }
-{
-    if frame.len() % 2 == 1 {
-        return refused(19, 0);
+// An odd byte, or more words than are lent, is 19.
+pub fn show(t: &[u8], frame: &[u8], words: &mut [u16]) {
+    let number = words_of(frame, words);
+    if number != 0 {
+        return refused(number, 0);
     }
-    put_words(frame, words);
     fitted(t, &words[..frame.len() / 2]);
 }

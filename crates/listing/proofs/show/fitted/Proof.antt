@@ -10,6 +10,9 @@ use Rattle.listing.proofs.show.fitted.Tie as tie
 is-table-requires : tie.Need-is-table-requires
 is-table-requires c κs = search needs
 
+check-number-requires : tie.Need-check-number-requires
+check-number-requires c κs = search needs
+
 refused-requires : tie.Need-refused-requires
 refused-requires c κs = search needs
 
@@ -36,11 +39,17 @@ rows-requires c κs =
 enum-told-2 : tie.Need-enum-told-2
 enum-told-2 c = search needs
 
+fit-number-requires : tie.Need-fit-number-requires
+fit-number-requires c κs = search needs
+
 refused-requires-2 : tie.Need-refused-requires-2
 refused-requires-2 c κs = search needs
 
 enum-told-3 : tie.Need-enum-told-3
 enum-told-3 c = search needs
+
+fit-number-requires-2 : tie.Need-fit-number-requires-2
+fit-number-requires-2 c κs = search needs
 
 refused-requires-3 : tie.Need-refused-requires-3
 refused-requires-3 c κs = search needs
@@ -59,6 +68,7 @@ fitted-spec =
     tie.close
     (tie.spec
     is-table-requires
+    check-number-requires
     refused-requires
     returns
     bases-of-requires
@@ -67,8 +77,10 @@ fitted-spec =
     heading-requires
     rows-requires
     enum-told-2
+    fit-number-requires
     refused-requires-2
     enum-told-3
+    fit-number-requires-2
     refused-requires-3
     returns-2
     returns-3
