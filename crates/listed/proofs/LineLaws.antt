@@ -72,3 +72,6 @@ front-counts out after x r e p h =
     let f : after ≡ x ++ drop (length x) out = p ∙ put-front out x in
     let t : take r after ≡ x = rw (e, f) (take-append-seam x (drop (length x) out)) in
     (omega (arith, e, ap length f, length-append x (drop (length x) out)), e ∙ sym (ap length t))
+
+pub value-counts : (out after : List ℕ) (r : ℕ) (v : ℤ) → 21 ≤ length out → Step out 0 (valueText v) r after → Counts r after
+value-counts out after r v h s = front-counts out after (valueText v) r (omega (arith, s .0)) (s .1) (omega (arith, h, value-short v))

@@ -1,14 +1,11 @@
 // Reads, places and compares the frame of the sheet on the wall, and writes what 01 says of it.
-ghost use mathlib.Core.Path.{_≡_};
-ghost use Prim.Native.Nat.{_^_, _≤_};
-ghost use lib.IntN.{pos};
-ghost use lib.Signed.{_≤ℤ_, _<ℤ_};
 use frame::compare::Compared;
 use frame::compare::compare_number;
 use frame::place::place_number;
 use frame::read::Reading;
 use frame::want::wanted_number;
 use libc::STDOUT_FILENO;
+use listed::numbers::put_value;
 
 fn text(s: &[u8]) {
     io::write_all(STDOUT_FILENO, s);
@@ -18,31 +15,11 @@ fn number(n: u64) {
     io::print_decimal(STDOUT_FILENO, n);
 }
 
-// Minus one minus v: not negative where v is.
-fn turned(v: i64) -> i64
-    requires { ⌜ v <ℤ pos 0 ⌝ }
-    ensures { λ r. ⌜ pos 0 ≤ℤ r ⌝ }
-{
-    -1 - v
-}
-
-// A number that is not negative, unsigned.
-fn natural(v: i64) -> u64
-    requires { ⌜ pos 0 ≤ℤ v ⌝ }
-    ensures { λ r. ⌜ pos r ≡ v ⌝ }
-    ensures { λ r. ⌜ r ≤ 2 ^ 63 ⌝ }
-{
-    v as u64
-}
-
 // The minus sign first.
 fn value_text(v: i64) {
-    if v < 0 {
-        text(b"-");
-        number(natural(turned(v)) + 1);
-        return;
-    }
-    number(natural(v));
+    let mut out = [0u8; 21];
+    let n = put_value(&mut out, 0, v);
+    text(&out[..n]);
 }
 
 // 01's "refused N L": where is the subframe of 24, else 0.
