@@ -13,9 +13,10 @@ use Rattle.sample.specs.Component.{Place, Named}
 use Rattle.sample.specs.Joining.{join, width}
 use Rattle.sample.specs.Source.{bitIn}
 use Rattle.model.specs.Accepts.{accepts}
-use Rattle.model.specs.Content.{Content, Parameter}
+use Rattle.model.specs.Content.{Content, Parameter, parameter}
 use Rattle.model.specs.Frame.{meets}
 use Rattle.model.specs.Samples.{widthOf}
+use Rattle.model.specs.Stored.{parametersIn, sampleCountIn}
 use Rattle.model.specs.View.{view}
 use Rattle.model.specs.Write.{write}
 use Rattle.model.proofs.Views.{parameters-view, parameter-view, samples-at}
@@ -59,10 +60,14 @@ check-of : (t : List ℕ) → accepts t ≡ true → checkOf t ≡ checked.Table
 unfolding checkOf
 check-of t e = rw e
 
+-- a parameter's samples in the view are as many as the table stores
+samples-are : (t : List ℕ) (i : ℕ) → i < parametersIn t → length (parameter (view t) i .samples) ≡ sampleCountIn t i
+samples-are t i l = ap (λ (q : Parameter). length (q .samples)) (parameter-view t i l) ∙ samples-at t i
+
 lists-of : (t : List ℕ) (p s : ℕ) → Listed (view t) p s → Lists t p s
 lists-of t p s l =
     let m = parameters-view t in
-    let h = ap (λ (q : Parameter). length (q .samples)) (parameter-view t (p - 1) (omega (arith, m, l .parameter-least, l .parameter-most))) ∙ samples-at t (p - 1) in
+    let h = samples-are t (p - 1) (omega (arith, m, l .parameter-least, l .parameter-most)) in
     record {
       parameter-least = l .parameter-least;
       parameter-most = omega (arith, m, l .parameter-most);
@@ -73,7 +78,7 @@ lists-of t p s l =
 listed-of : (t : List ℕ) (p s : ℕ) → Lists t p s → Listed (view t) p s
 listed-of t p s l =
     let m = parameters-view t in
-    let h = ap (λ (q : Parameter). length (q .samples)) (parameter-view t (p - 1) (omega (arith, l .parameter-least, l .parameter-most))) ∙ samples-at t (p - 1) in
+    let h = samples-are t (p - 1) (omega (arith, l .parameter-least, l .parameter-most)) in
     record {
       parameter-least = l .parameter-least;
       parameter-most = omega (arith, m, l .parameter-most);
