@@ -1,0 +1,4 @@
+pub mod Items
+pub mod Written
+pub mod Says
+pub mod Plain
