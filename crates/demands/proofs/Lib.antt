@@ -4,3 +4,4 @@ pub mod Determined
 pub mod EndToEnd
 pub mod Useless
 pub mod AllExamples
+pub mod NotVacuous

@@ -21,6 +21,8 @@ use Rattle.model.specs.View.{view}
 use Rattle.model.specs.Write.{write}
 use Rattle.model.proofs.Views.{parameters-view, parameter-view, samples-at}
 use Rattle.gather.specs.Ruling.{Ruling, Accepted, Refused, judgeOf}
+use Rattle.grammar.proofs.Accepted.{accepted-says}
+use Rattle.grammar.proofs.Accepts.{says-accepted}
 use Rattle.maker.specs.Made.{madeOf, leftOf, madeNumber}
 use Rattle.maker.specs.declared.make.Made.{Made}
 use Rattle.maker.specs.declared.make.Made.the-variants as made
@@ -169,7 +171,7 @@ module _ (B : Calls) (K : Kept B) where
   making : (s l : List ℕ) (r : Ruling) → judgeOf s ≡ r → B .make s l ≡ madeOf r (length l)
   making s l r e = K .makes s l .0 ∙ ap (λ (v : Ruling). madeOf v (length l)) e
 
-  pub taken-exactly : (s l : List ℕ) (c : Content) → judgeOf s ≡ Accepted c → length (write 1 c) ≤ length l → B .make s l ≡ made.Length (length (write 1 c))
+  taken-exactly : (s l : List ℕ) (c : Content) → judgeOf s ≡ Accepted c → length (write 1 c) ≤ length l → B .make s l ≡ made.Length (length (write 1 c))
   taken-exactly s l c e h = making s l (Accepted c) e ∙ rw (le-leb (length (write 1 c)) (length l) h)
 
   small-exactly : (s l : List ℕ) (c : Content) → judgeOf s ≡ Accepted c → length l < length (write 1 c) → B .make s l ≡ made.Refused TableTooSmall 0
@@ -215,10 +217,11 @@ module _ (B : Calls) (K : Kept B) where
   pub two : Two B
   two =
       record {
-        taken = taken-exactly;
+        taken = λ s l c h. taken-exactly s l c (says-accepted s c h);
+        only = λ s l n h. let t = made-table s l n (sym (K .makes s l .0) ∙ h) in (t .content, accepted-says s (t .content) (t .accepted));
         refused = λ s l q k e. making s l (Refused q k) e;
-        small = small-exactly;
-        says = says-so;
+        small = λ s l c h. small-exactly s l c (says-accepted s c h);
+        says = λ s l n c h w. says-so s l n c h (says-accepted s c w);
         later = λ s l n h. ap (drop n) (K .makes s l .1) ∙ made-table s l n (sym (K .makes s l .0) ∙ h) .later;
         joined = λ t f p s h m l. read-joined t h p s l f m;
         placed-back = λ t f p s v h m l d. read-back t h p s l f m v d;

@@ -26,7 +26,7 @@ use Rattle.model.specs.Write.{write}
 use Rattle.model.proofs.WallCase.{wall-written}
 use Rattle.gather.specs.Ruling.{Refused, run, judgeOf}
 use Rattle.gather.specs.WallSheet.{wallSheet}
-use Rattle.gather.proofs.WallJudged.{wall-accepted}
+use Rattle.grammar.proofs.Exactly.{wall-sheet-says}
 use Rattle.maker.specs.declared.make.Made.{Made}
 use Rattle.maker.specs.declared.make.Made.the-variants as made
 use Rattle.table.specs.declared.check.Checked.the-variants.{Table, NotTable}
@@ -39,7 +39,7 @@ use Rattle.table.proofs.Accepting.{accepted-ruled}
 use Rattle.demands.specs.Calls.{Calls, Kept}
 use Rattle.demands.specs.Demands.{Listed, componentsOf, meaning, Demands}
 use Rattle.demands.proofs.Meeting.{accepts-of}
-use Rattle.demands.proofs.EndToEnd.{readBy, EndToEnd, end-to-end}
+use Rattle.demands.proofs.EndToEnd.{readBy, ReadAsSaid, read-as-said}
 
 -- ---- 01's frame, and one with another first word
 
@@ -132,10 +132,10 @@ wallTable B = take (length (write 1 wall)) (B .made wallSheet (write 1 wall))
 
 module _ (B : Calls) (D : Demands B) where
   made-wall : B .make wallSheet (write 1 wall) ≡ made.Length (length (write 1 wall))
-  made-wall = D .two .taken wallSheet (write 1 wall) wall wall-accepted (omega arith)
+  made-wall = D .two .taken wallSheet (write 1 wall) wall wall-sheet-says (omega arith)
 
-  whole : EndToEnd B wallSheet (write 1 wall) (length (write 1 wall)) wall
-  whole = end-to-end B D wallSheet (write 1 wall) (length (write 1 wall)) wall wall-accepted made-wall
+  whole : ReadAsSaid B wallSheet (write 1 wall) (length (write 1 wall)) wall
+  whole = read-as-said B D wallSheet (write 1 wall) (length (write 1 wall)) wall wall-sheet-says made-wall
 
   reads-pitch : B .read (wallTable B) words 2 1 ≡ Sample 53 6 (negsuc 10)
   reads-pitch = whole .reads words 2 1 words-meet pitch-listed ∙ pitch-read
@@ -158,7 +158,7 @@ module _ (B : Calls) (D : Demands B) where
       omega (arith, ap raw-in (sym a ∙ (u (wallTable B) words others 1 1 ∙ b)))
 
   says-wall : view (wallTable B) ≡ wall
-  says-wall = D .two .says wallSheet (write 1 wall) (length (write 1 wall)) wall made-wall wall-accepted
+  says-wall = D .two .says wallSheet (write 1 wall) (length (write 1 wall)) wall made-wall wall-sheet-says
 
   pitch-room : 63 < 2 ^ width (componentsOf (view (wallTable B)) 2 1)
   pitch-room = let w = ap (λ (c : Content). width (componentsOf c 2 1)) says-wall ∙ pitch-wide in rw w (omega arith)

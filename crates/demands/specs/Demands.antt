@@ -17,7 +17,8 @@ use Rattle.model.specs.Frame.{meets}
 use Rattle.model.specs.Samples.{pieces}
 use Rattle.model.specs.View.{view}
 use Rattle.model.specs.Write.{write}
-use Rattle.gather.specs.Ruling.{Accepted, Refused, judgeOf}
+use Rattle.gather.specs.Ruling.{Refused, judgeOf}
+use Rattle.grammar.specs.Says.{Says}
 use Rattle.maker.specs.Made.{madeNumber}
 use Rattle.maker.specs.declared.make.Made.the-variants as made
 use Rattle.table.specs.Answers.{checkNumber}
@@ -63,11 +64,13 @@ pub record One (B : Calls) : Type 0 where
 -- signed. A sample placed is read back equal, and no bit outside its components changes."
 
 pub record Two (B : Calls) : Type 0 where
-  -- accepted, refused and too small, each exactly where the judge and the lent bytes say so
-  pub taken : (s l : List ℕ) (c : Content) → judgeOf s ≡ Accepted c → length (write 1 c) ≤ length l → B .make s l ≡ made.Length (length (write 1 c))
+  -- accepted exactly where the sheet says something, and the lent bytes are enough for its table
+  pub taken : (s l : List ℕ) (c : Content) → Says s c → length (write 1 c) ≤ length l → B .make s l ≡ made.Length (length (write 1 c))
+  pub only : (s l : List ℕ) (n : ℕ) → B .make s l ≡ made.Length n → (c : Content) × Says s c
+  pub small : (s l : List ℕ) (c : Content) → Says s c → length l < length (write 1 c) → B .make s l ≡ made.Refused TableTooSmall 0
+  -- else refused as the order of 01's tests says
   pub refused : (s l : List ℕ) (q : Refusal) (k : ℕ) → judgeOf s ≡ Refused q k → B .make s l ≡ made.Refused q k
-  pub small : (s l : List ℕ) (c : Content) → judgeOf s ≡ Accepted c → length l < length (write 1 c) → B .make s l ≡ made.Refused TableTooSmall 0
-  pub says : (s l : List ℕ) (n : ℕ) (c : Content) → B .make s l ≡ made.Length n → judgeOf s ≡ Accepted c → view (take n (B .made s l)) ≡ c
+  pub says : (s l : List ℕ) (n : ℕ) (c : Content) → B .make s l ≡ made.Length n → Says s c → view (take n (B .made s l)) ≡ c
   pub later : (s l : List ℕ) (n : ℕ) → B .make s l ≡ made.Length n → drop n (B .made s l) ≡ drop n l
   pub joined : (t f : List ℕ) (p s : ℕ) → B .check t ≡ Table → meets (view t) f ≡ true → Listed (view t) p s → B .read t f p s ≡ Sample (join f (componentsOf (view t) p s)) (width (componentsOf (view t) p s)) (meaning (view t) p s (join f (componentsOf (view t) p s)))
   pub placed-back : (t f : List ℕ) (p s v : ℕ) → B .check t ≡ Table → meets (view t) f ≡ true → Listed (view t) p s → v < 2 ^ width (componentsOf (view t) p s) → B .read t (B .placed t f p s v) p s ≡ Sample v (width (componentsOf (view t) p s)) (meaning (view t) p s v)
