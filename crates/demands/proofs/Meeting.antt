@@ -188,7 +188,7 @@ module _ (B : Calls) (K : Kept B) where
     passed : accepts t ≡ true
     passed = accepts-of t (sym (K .checks t) ∙ h)
 
-    pub read-joined : (f : List ℕ) → meets (view t) f ≡ true → B .read t f p s ≡ reading.Sample (join f (componentsOf (view t) p s)) (width (componentsOf (view t) p s)) (meaning (view t) p s (join f (componentsOf (view t) p s)))
+    read-joined : (f : List ℕ) → meets (view t) f ≡ true → B .read t f p s ≡ reading.Sample (join f (componentsOf (view t) p s)) (width (componentsOf (view t) p s)) (meaning (view t) p s (join f (componentsOf (view t) p s)))
     unfolding sampleRead rawOf widthIs valueOf widthOf componentsOf meaning
     read-joined f m =
         let k = lists-of t p s l in

@@ -16,7 +16,7 @@ use Rattle.table.proofs.Asking.{number-asked, mnemonic-asked}
 use Rattle.ffi.specs.Structs.{nameOut}
 use Rattle.ffi.specs.declared.tables.OrbName.{OrbName}
 
-abbrev pub nameStruct : ℕ → ℕ → ℕ → OrbName
+abbrev nameStruct : ℕ → ℕ → ℕ → OrbName
 nameStruct number start long = record { number = number; start = start; length = long }
 
 module _ (b : List ℕ) where

@@ -19,7 +19,7 @@ pub enum Fit {
 }
 
 // How many words a frame of the table has.
-pub fn frame_words(t: &[u8]) -> usize
+fn frame_words(t: &[u8]) -> usize
     requires { ⌜ Ruled (now t) ⌝ }
     ensures { λ r. ⌜ r ≡ frameWords (view (now (t .entry))) ⌝ }
 {
@@ -59,7 +59,7 @@ fn subframe_fits(t: &[u8], words: &[u16], i: usize, bases: Bases) -> bool
 }
 
 // Every word of the frame is.
-pub fn words_ok(t: &[u8], words: &[u16], bases: Bases) -> bool
+fn words_ok(t: &[u8], words: &[u16], bases: Bases) -> bool
     requires { ⌜ Ruled (now t) ⌝ }
     requires { ⌜ BasesOf (now t) bases ⌝ }
     requires { ⌜ length (now words) ≡ frameWords (view (now t)) ⌝ }

@@ -42,7 +42,7 @@ pub fn place_in(t: &[u8], words: &mut [u16], i: usize, j: usize, bases: Bases, v
 }
 
 // How wide that sample is.
-pub fn width_in(t: &[u8], i: usize, j: usize, bases: Bases) -> u32
+fn width_in(t: &[u8], i: usize, j: usize, bases: Bases) -> u32
     requires { ⌜ Ruled (now t) ⌝ }
     requires { ⌜ BasesOf (now t) bases ⌝ }
     requires { ⌜ i < parametersIn (now t) ⌝ }

@@ -38,7 +38,7 @@ mayEnd AfterSourceBlank = false
 mayEnd NextParameter = true
 mayEnd Nothing = true
 
-pub end-ruled : (d : Due) (K : Book) (os : List ℕ) (k : ℕ) → atEnd d K os k ≡ cond (mayEnd d) (identified (contentOf K) os) (Refused Unended k)
+end-ruled : (d : Due) (K : Book) (os : List ℕ) (k : ℕ) → atEnd d K os k ≡ cond (mayEnd d) (identified (contentOf K) os) (Refused Unended k)
 end-ruled HeaderWord K os k = refl
 end-ruled HeaderLine K os k = refl
 end-ruled RecordWord K os k = refl
@@ -68,7 +68,7 @@ pub record Unidentified (c : Content) (os : List ℕ) (r : Refusal) (k : ℕ) : 
   pub number : r ≡ BadIdentifiers
   pub place : ((k ≡ 0) × Untaken c) ⊎ ((firstBad c < parameters c) × (k ≡ getD os (firstBad c) 0))
 
-pub unidentified : (c : Content) (os : List ℕ) (r : Refusal) (k : ℕ) → identified c os ≡ Refused r k → Unidentified c os r k
+unidentified : (c : Content) (os : List ℕ) (r : Refusal) (k : ℕ) → identified c os ≡ Refused r k → Unidentified c os r k
 unfolding identified
 unidentified c os r k e = go (eqb (parameters c) 0) refl (ltb (firstBad c) (parameters c)) refl (all (subframes c) (λ s. taken c (s + 1))) refl e
   where

@@ -92,13 +92,13 @@ end-last (b ∷ l) e = go (trimEnd l) (λ q. end-last l q) e
         let j : suc (length m) - 1 ≡ length m = omega arith in
         ih (ap (λ (n : ℕ). getD (x ∷ m) n 0) j ∙ sym (ap (λ (n : ℕ). getD (b ∷ x ∷ m) n 0) i) ∙ q)
 
-pub field-first : (k : ℕ) (l : List ℕ) → getD (fieldOf k l) 0 0 ≡ space → ⊥
+field-first : (k : ℕ) (l : List ℕ) → getD (fieldOf k l) 0 0 ≡ space → ⊥
 unfolding fieldOf trim
 field-first k l =
     rw (end-take (trimStart (pieceOf k l)))
     (take-first (length (trimEnd (trimStart (pieceOf k l)))) (trimStart (pieceOf k l)) (start-first (pieceOf k l)))
 
-pub field-last : (k : ℕ) (l : List ℕ) → getD (fieldOf k l) (length (fieldOf k l) - 1) 0 ≡ space → ⊥
+field-last : (k : ℕ) (l : List ℕ) → getD (fieldOf k l) (length (fieldOf k l) - 1) 0 ≡ space → ⊥
 unfolding fieldOf trim
 field-last k l = end-last (trimStart (pieceOf k l))
 

@@ -154,7 +154,7 @@ ends =
     ∷ []
 
 -- what is due, and the order of fields
-abbrev pub orders : List Case
+abbrev orders : List Case
 orders =
     -- no version, and version 2.00
     rules (changing 2 (44 ∷ 65 ∷ 44 ∷ 84 ∷ 121 ∷ 112 ∷ 101 ∷ 88 ∷ 44 ∷ 44 ∷ 44 ∷ 48 ∷ 48 ∷ 49 ∷ 44 ∷ 44 ∷ 44 ∷ 84 ∷ 114 ∷ 117 ∷ 101 ∷ 44 ∷ 44 ∷ 44 ∷ 49 ∷ 44 ∷ 44 ∷ [])) (Refused FieldEmpty 2)

@@ -61,7 +61,7 @@ pub record Between (K : Book) : Type 0 where
 -- ---- in a parameter
 
 -- a parameter of which only the texts are known
-abbrev pub texted : List ℕ → List ℕ → List ℕ → Parameter
+abbrev texted : List ℕ → List ℕ → List ℕ → Parameter
 texted a b c =
     record { name = a; mnemonic = b; identification = c; signed = false; identifier = false; value = 0; samples = [] }
 

@@ -39,7 +39,7 @@ module _ (s : ℕ) (pairs : List Subframe) where
       go false e k l = h k l
 
   -- subframe c's pair
-  pub spread-at : (c : ℕ) → 1 ≤ c → c ≤ s → getD (spread s pairs) (c - 1) noSubframe ≡ getD pairs (pairIndex (length pairs) c) noSubframe
+  spread-at : (c : ℕ) → 1 ≤ c → c ≤ s → getD (spread s pairs) (c - 1) noSubframe ≡ getD pairs (pairIndex (length pairs) c) noSubframe
   unfolding spread pairIndex
   spread-at c l m = go (eqb (length pairs) 1)
     where

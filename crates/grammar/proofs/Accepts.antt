@@ -108,7 +108,7 @@ module _ (K : Book) (os : List ℕ) (k : ℕ) (c : Content) (h : Lawful base c) 
   parameters-end [] e m = grows-accepted K os c h m
   parameters-end (t ∷ ts) e m = none-left e
 
-  pub end-accepts : (d : Due) → Left d K c [] → atEnd d K os k ≡ Accepted c
+  end-accepts : (d : Due) → Left d K c [] → atEnd d K os k ≡ Accepted c
   end-accepts due.HeaderWord x = none-left (x .lines)
   end-accepts due.HeaderLine x = none-left (x .lines)
   end-accepts due.RecordWord x = body-left (recordLines (x .left .pairs)) (x .left .told) (x .left .lines)
@@ -131,14 +131,14 @@ module _ (K : Book) (os : List ℕ) (k : ℕ) (c : Content) (h : Lawful base c) 
 -- ---- the lines
 
 -- each line is written as its items say
-abbrev pub AreLines : Lines → List (List Item) → Type 0
+abbrev AreLines : Lines → List (List Item) → Type 0
 AreLines none [] = Unit {0}
 AreLines none (items ∷ rest) = ⊥
 AreLines unended lines = ⊥
 AreLines (line l ls) [] = ⊥
 AreLines (line l ls) (items ∷ rest) = Line l items × AreLines ls rest
 
-pub run-accepts : (d : Due) (K : Book) (os : List ℕ) (k : ℕ) (ls : Lines) (lines : List (List Item)) (c : Content) → Lawful base c → Begun d K → AreLines ls lines → Left d K c lines → run d K os k ls ≡ Accepted c
+run-accepts : (d : Due) (K : Book) (os : List ℕ) (k : ℕ) (ls : Lines) (lines : List (List Item)) (c : Content) → Lawful base c → Begun d K → AreLines ls lines → Left d K c lines → run d K os k ls ≡ Accepted c
 unfolding run
 run-accepts d K os k none [] c h b w x = end-accepts K os (k + 1) c h d x
 run-accepts d K os k none (items ∷ rest) c h b w x = absurd w
@@ -152,7 +152,7 @@ run-accepts d K os k (line l ls) (items ∷ rest) c h b w x =
 
 -- ---- the sheet
 
-pub written-lines : (x : List ℕ) (lines : List (List Item)) → Written x lines → AreLines (linesOf x) lines
+written-lines : (x : List ℕ) (lines : List (List Item)) → Written x lines → AreLines (linesOf x) lines
 unfolding linesOf
 written-lines x [] w = rw w tt
 written-lines x (items ∷ lines) w =

@@ -15,7 +15,7 @@ pub _&_ : {A B : Type 0} → A → B → A × B
 a & b = (a, b)
 
 -- item k is spelled by field k
-abbrev pub AllSpelled : List Item → (ℕ → List ℕ) → Type 0
+abbrev AllSpelled : List Item → (ℕ → List ℕ) → Type 0
 AllSpelled [] field = Unit {0}
 AllSpelled (i ∷ is) field = Spelled i (field 0) × AllSpelled is (λ k. field (suc k))
 

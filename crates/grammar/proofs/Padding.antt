@@ -18,13 +18,13 @@ use Rattle.grammar.proofs.Tidy.{Tidy}
 use Rattle.grammar.proofs.Tidies.{each-join, each-cons}
 
 -- the test for a space or a tab
-pub test-blank : (b : ℕ) → isBlank b ≡ true → Blank b
+test-blank : (b : ℕ) → isBlank b ≡ true → Blank b
 test-blank b h = ⊎-elim (λ e. inl (eqb-true b space e)) (λ e. inr (eqb-true b tab e)) (or-either (eqb b space) (eqb b tab) h)
 
-pub blank-test : (b : ℕ) → Blank b → isBlank b ≡ true
+blank-test : (b : ℕ) → Blank b → isBlank b ≡ true
 blank-test b = ⊎-elim (λ e. rw e) (λ e. rw e)
 
-pub blanks-rest : (b : ℕ) (l : List ℕ) → Blanks (b ∷ l) → Blanks l
+blanks-rest : (b : ℕ) (l : List ℕ) → Blanks (b ∷ l) → Blanks l
 blanks-rest b l h i m = h (suc i) (omega arith)
 
 pub blanks-none : Blanks []

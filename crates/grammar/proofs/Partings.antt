@@ -79,25 +79,25 @@ module _ (x : List ℕ) (i : Item) (r : Field x i) where
   field-tidy : Tidy (r .field)
   field-tidy = spelled-tidy i (r .field) (r .spelled)
 
-  pub field-trim : trim x ≡ r .field
+  field-trim : trim x ≡ r .field
   field-trim = ap trim (r .written) ∙ padded-trim (r .before) (r .field) (r .after) (r .blanksBefore) field-tidy (r .blanksAfter)
 
-  pub field-spelled : Spelled i (trim x)
+  field-spelled : Spelled i (trim x)
   field-spelled = subst (Spelled i) (sym field-trim) (r .spelled)
 
-  pub field-without : Without comma x
+  field-without : Without comma x
   field-without =
       subst (Without comma) (sym (r .written))
       (without-join comma (r .before) (r .field ++ r .after) (blanks-without (r .before) (r .blanksBefore))
       (without-join comma (r .field) (r .after) (field-tidy .comma) (blanks-without (r .after) (r .blanksAfter))))
 
-  pub field-clean : Each Clean 0 x
+  field-clean : Each Clean 0 x
   field-clean =
       subst (Each Clean 0) (sym (r .written))
       (each-join Clean (r .before) (r .field ++ r .after) (blanks-clean (r .before) (r .blanksBefore))
       (each-join Clean (r .field) (r .after) (field-tidy .clean) (blanks-clean (r .after) (r .blanksAfter))))
 
-pub trim-field : (x : List ℕ) (i : Item) → Spelled i (trim x) → Field x i
+trim-field : (x : List ℕ) (i : Item) → Spelled i (trim x) → Field x i
 trim-field x i s =
     let p = trim-padded x in
     record {

@@ -29,10 +29,10 @@ else-passed (Refused r) b e = refused-passes r e
 else-passes : (a b : Judged) → a ≡ Passes → b ≡ Passes → orElse a b ≡ Passes
 else-passes a b p q = rw p q
 
-pub one-passed : (j : Judged) (js : List Judged) → first (j ∷ js) ≡ Passes → (j ≡ Passes) × (first js ≡ Passes)
+one-passed : (j : Judged) (js : List Judged) → first (j ∷ js) ≡ Passes → (j ≡ Passes) × (first js ≡ Passes)
 one-passed j js e = else-passed j (first js) (sym (first-step j js) ∙ e)
 
-pub one-passes : (j : Judged) (js : List Judged) → j ≡ Passes → first js ≡ Passes → first (j ∷ js) ≡ Passes
+one-passes : (j : Judged) (js : List Judged) → j ≡ Passes → first js ≡ Passes → first (j ∷ js) ≡ Passes
 one-passes j js p q = first-step j js ∙ else-passes j (first js) p q
 
 many-passed : (js ks : List Judged) → first (js ++ ks) ≡ Passes → (first js ≡ Passes) × (first ks ≡ Passes)

@@ -12,7 +12,7 @@ use Rattle.grammar.proofs.PlainItems.{Sayable, item-spelled, item-short
 
 -- ---- a line
 
-abbrev pub AllSayable : List Item → Type 0
+abbrev AllSayable : List Item → Type 0
 AllSayable [] = Unit {0}
 AllSayable (i ∷ is) = Sayable i × AllSayable is
 

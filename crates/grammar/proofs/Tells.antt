@@ -68,7 +68,7 @@ module _ (K : Book) (l : List ℕ) (c : Content) (ls : List (List Item)) where
 
   -- ---- words and blank lines
 
-  pub word-line : (w : List ℕ) → Text w → trim l ≡ w → length l ≤ 1024 → Line l (word w)
+  word-line : (w : List ℕ) → Text w → trim l ≡ w → length l ≤ 1024 → Line l (word w)
   word-line w t e n = record { short = n; fields = trim-word l w e t }
 
   pub blank-line : fieldCount l ≡ 0 → length l ≤ 1024 → Line l []

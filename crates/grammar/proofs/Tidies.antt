@@ -49,7 +49,7 @@ text-ends [] h (suc i) e = let z : ⊥ = omega arith in z
 text-ends (b ∷ f) h zero e = let z : ⊥ = omega (arith, h 0 (omega arith)) in z
 text-ends (b ∷ f) h (suc i) e = text-ends f (λ j m. h (suc j) (omega arith)) i e
 
-pub text-tidy : (f : List ℕ) → Text f → Tidy f
+text-tidy : (f : List ℕ) → Text f → Tidy f
 text-tidy f t =
     record {
       clean = λ i h. printed-clean (getD f i 0) (t .each i h .least) (t .each i h .most);
@@ -130,7 +130,7 @@ seconds-tidy f a b =
 test-tidy : (f : List ℕ) → allClean f ≡ true → holds comma f ≡ false → isBlank (getD f 0 0) ≡ false → isBlank (getD f (length f - 1) 0) ≡ false → Tidy f
 test-tidy f c h b e = record { clean = clean-each f c; comma = holds-without comma f h; begins = b; ends = e }
 
-pub truth-tidy : (f : List ℕ) (b : Bool) → IsTruth f b → Tidy f
+truth-tidy : (f : List ℕ) (b : Bool) → IsTruth f b → Tidy f
 unfolding allClean holds indexOf
 truth-tidy f true =
     ⊎-elim (λ e. rw e (test-tidy _ refl refl refl refl))

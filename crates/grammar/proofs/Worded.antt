@@ -17,11 +17,11 @@ use Rattle.model.specs.Meaning.{TextLaw}
 use Rattle.model.proofs.Meanings.{text-law}
 use Rattle.grammar.specs.Items.{Text}
 
-pub law-text : (t : List ℕ) → TextLaw base t → Text t
+law-text : (t : List ℕ) → TextLaw base t → Text t
 law-text t h = record { short = omega (arith, h .short); each = h .each; begins = h .begins; ends = h .ends }
 
 -- the bytes of a keyword; no keyword has none
-abbrev pub spoken : Keyword → List ℕ
+abbrev spoken : Keyword → List ℕ
 spoken keyword.Header = headerWord
 spoken keyword.Record = recordWord
 spoken keyword.Nothing = noneWord

@@ -16,16 +16,16 @@ use Rattle.judge.specs.Names.{textAt, textsAt}
 use Rattle.judge.proofs.Growing.{length-snoc}
 
 -- a store behind the first n leaves them
-pub take-set : {A : Type 0} (l : List A) (n : ℕ) (v : A) → take n (set l n v) ≡ take n l
+take-set : {A : Type 0} (l : List A) (n : ℕ) (v : A) → take n (set l n v) ≡ take n l
 take-set l zero v = refl
 take-set [] (suc n) v = refl
 take-set {A} (x ∷ l) (suc n) v = ap (λ (m : List A). x ∷ m) (take-set l n v)
 
 -- and makes one item more
-pub take-more-set : (l : List ℕ) (n v : ℕ) → n < length l → take (n + 1) (set l n v) ≡ take n l ++ (v ∷ [])
+take-more-set : (l : List ℕ) (n v : ℕ) → n < length l → take (n + 1) (set l n v) ≡ take n l ++ (v ∷ [])
 take-more-set l n v h = ap (λ (k : ℕ). take k (set l n v)) (add-one n) ∙ take-suc-set l n v h
 
-pub row-snoc : {A : Type 0} (f : Parameter → A) (ps : List Parameter) (p : Parameter) → row f (ps ++ (p ∷ [])) ≡ row f ps ++ (f p ∷ [])
+row-snoc : {A : Type 0} (f : Parameter → A) (ps : List Parameter) (p : Parameter) → row f (ps ++ (p ∷ [])) ≡ row f ps ++ (f p ∷ [])
 unfolding row
 row-snoc f [] p = refl
 row-snoc {A} f (q ∷ ps) p = ap (λ (l : List A). f q ∷ l) (row-snoc f ps p)
@@ -78,7 +78,7 @@ numbered-step ParameterEnd l K F xs v h m e = numbered-more F (K .parameters) xs
 
 -- ---- a text of each parameter, by its place
 
-pub texts-snoc : (s us es : List ℕ) (a e : ℕ) → length us ≡ length es → textsAt s (us ++ (a ∷ [])) (es ++ (e ∷ [])) ≡ textsAt s us es ++ (textAt s a e ∷ [])
+texts-snoc : (s us es : List ℕ) (a e : ℕ) → length us ≡ length es → textsAt s (us ++ (a ∷ [])) (es ++ (e ∷ [])) ≡ textsAt s us es ++ (textAt s a e ∷ [])
 unfolding textsAt
 texts-snoc s [] [] a e h = refl
 texts-snoc s [] (y ∷ es) a e h = absurd (omega arith)

@@ -28,7 +28,7 @@ pub else-0 : (j k : Judged) → orElse j k ≡ Passes → j ≡ Passes
 else-0 Passes k e = refl
 else-0 (Refused r) k e = never-passes r e
 
-pub else-1 : (j k : Judged) → orElse j k ≡ Passes → k ≡ Passes
+else-1 : (j k : Judged) → orElse j k ≡ Passes → k ≡ Passes
 else-1 Passes k e = e
 else-1 (Refused r) k e = never-passes r e
 

@@ -11,22 +11,22 @@ use Rattle.gather.specs.Book.{Book, grow, samplesOf, componentsOf, allComponent
 use Rattle.judge.specs.Counts.{textOf, tallyOf, countedOf}
 
 -- one more at the end
-pub samples-snoc : (ps : List Parameter) (p : Parameter) → samplesOf (ps ++ (p ∷ [])) ≡ samplesOf ps + length (p .samples)
+samples-snoc : (ps : List Parameter) (p : Parameter) → samplesOf (ps ++ (p ∷ [])) ≡ samplesOf ps + length (p .samples)
 unfolding samplesOf
 samples-snoc [] p = omega arith
 samples-snoc (q ∷ ps) p = omega (arith, samples-snoc ps p)
 
-pub components-snoc : (ss : List Sample) (s : Sample) → componentsOf (ss ++ (s ∷ [])) ≡ componentsOf ss + length (s .components)
+components-snoc : (ss : List Sample) (s : Sample) → componentsOf (ss ++ (s ∷ [])) ≡ componentsOf ss + length (s .components)
 unfolding componentsOf
 components-snoc [] s = omega arith
 components-snoc (q ∷ ss) s = omega (arith, components-snoc ss s)
 
-pub all-components-snoc : (ps : List Parameter) (p : Parameter) → allComponentsOf (ps ++ (p ∷ [])) ≡ allComponentsOf ps + componentsOf (p .samples)
+all-components-snoc : (ps : List Parameter) (p : Parameter) → allComponentsOf (ps ++ (p ∷ [])) ≡ allComponentsOf ps + componentsOf (p .samples)
 unfolding allComponentsOf
 all-components-snoc [] p = omega arith
 all-components-snoc (q ∷ ps) p = omega (arith, all-components-snoc ps p)
 
-pub text-snoc : (ps : List Parameter) (p : Parameter) → textOf (ps ++ (p ∷ [])) ≡ textOf ps + length (p .name) + length (p .mnemonic) + length (p .identification)
+text-snoc : (ps : List Parameter) (p : Parameter) → textOf (ps ++ (p ∷ [])) ≡ textOf ps + length (p .name) + length (p .mnemonic) + length (p .identification)
 unfolding textOf
 text-snoc [] p = omega arith
 text-snoc (q ∷ ps) p = omega (arith, text-snoc ps p)

@@ -28,7 +28,7 @@ use Rattle.judge.specs.declared.sampling.Sampling.{Sampling}
 
 -- ---- one component more
 
-pub spots-snoc : (cs : List Component) (c : Component) → spots (cs ++ (c ∷ [])) ≡ spots cs ++ (spot c ∷ [])
+spots-snoc : (cs : List Component) (c : Component) → spots (cs ++ (c ∷ [])) ≡ spots cs ++ (spot c ∷ [])
 unfolding spots
 spots-snoc [] c = refl
 spots-snoc (d ∷ cs) c = ap (λ (l : List Piece). spot d ∷ l) (spots-snoc cs c)
@@ -38,7 +38,7 @@ unfolding width
 width-snoc [] p = omega arith
 width-snoc (q ∷ ps) p = omega (arith, width-snoc ps p)
 
-pub spots-width-snoc : (cs : List Component) (c : Component) → width (spots (cs ++ (c ∷ []))) ≡ width (spots cs) + bitsOf (spot c)
+spots-width-snoc : (cs : List Component) (c : Component) → width (spots (cs ++ (c ∷ []))) ≡ width (spots cs) + bitsOf (spot c)
 spots-width-snoc cs c = ap width (spots-snoc cs c) ∙ width-snoc (spots cs) (spot c)
 
 getD-front : (cs : List Component) (c : Component) (k : ℕ) → k < length cs → getD (cs ++ (c ∷ [])) k noComponent ≡ getD cs k noComponent
@@ -126,10 +126,10 @@ module _ (g r : Sampling) where
   kept-first : (ss : List Sample) → r .first ≡ g .first → r .lies ≡ g .lies → r .within ≡ g .within → OfFirst g ss → OfFirst r ss
   kept-first ss a b c h = record { first = a ∙ h .first; lies = b ∙ h .lies; within = c ∙ h .within }
 
-  pub sampled-same : (K L : Book) → r ≡ g → L .parts ≡ K .parts → L .opened .samples ≡ K .opened .samples → Sampled g K → Sampled r L
+  sampled-same : (K L : Book) → r ≡ g → L .parts ≡ K .parts → L .opened .samples ≡ K .opened .samples → Sampled g K → Sampled r L
   sampled-same K L e p q h = rw e (record { parts = rw p (h .parts); whole = rw q (h .whole) })
 
-  pub sampled-parted : (l : List ℕ) (K : Book) (n : ℕ) → n ≡ length (K .parts) → Widened g (partIn l) n r → Sampled g K → Sampled r (grow ComponentLine l K)
+  sampled-parted : (l : List ℕ) (K : Book) (n : ℕ) → n ≡ length (K .parts) → Widened g (partIn l) n r → Sampled g K → Sampled r (grow ComponentLine l K)
   sampled-parted l K n e w h =
       record { parts = parts-more l (K .parts) n e (h .parts) w; whole = kept-first (K .opened .samples) (w .first) (w .lies) (w .within) (h .whole) }
 

@@ -30,7 +30,7 @@ fn text_at(sheet: &[u8], start: usize, end: usize) -> &[u8]
 }
 
 // Whether none of the texts at these places is this one.
-pub fn unlike(sheet: &[u8], starts: &[usize], ends: &[usize], text: &[u8]) -> bool
+fn unlike(sheet: &[u8], starts: &[usize], ends: &[usize], text: &[u8]) -> bool
     requires { ⌜ length (now starts) ≡ length (now ends) ⌝ }
     ensures { λ r. ⌜ r ≡ unlikeAll (textsAt (now (sheet .entry)) (now (starts .entry)) (now (ends .entry))) (now (text .entry)) ⌝ }
 {
@@ -45,7 +45,7 @@ pub fn unlike(sheet: &[u8], starts: &[usize], ends: &[usize], text: &[u8]) -> bo
 }
 
 // The same of a text that may be empty: an empty one is like no other.
-pub fn unlike_or_empty(sheet: &[u8], starts: &[usize], ends: &[usize], text: &[u8]) -> bool
+fn unlike_or_empty(sheet: &[u8], starts: &[usize], ends: &[usize], text: &[u8]) -> bool
     requires { ⌜ length (now starts) ≡ length (now ends) ⌝ }
     ensures { λ r. ⌜ r ≡ (isEmpty (now (text .entry)) || unlikeAll (textsAt (now (sheet .entry)) (now (starts .entry)) (now (ends .entry))) (now (text .entry))) ⌝ }
 {

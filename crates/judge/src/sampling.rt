@@ -43,7 +43,7 @@ fn spot_of(p: Part) -> Component
 }
 
 // A bit twice, or a width above 32, with one component more.
-pub fn joined_judged(g: Sampling, p: Part) -> Judged
+fn joined_judged(g: Sampling, p: Part) -> Judged
     requires { ⌜ (g .spots .count < 8) × (g .width ≤ 32) × Modest p ⌝ }
     ensures { λ r. ⌜ r ≡ when (twice (listed (g .spots) ++ (spotOf p ∷ [])) || ltb 32 (g .width + bitsIn p)) BadSample ⌝ }
 {
@@ -58,7 +58,7 @@ pub fn joined_judged(g: Sampling, p: Part) -> Judged
 }
 
 // The width against the first sample's, where this is not the first.
-pub fn width_judged(g: Sampling, own: usize) -> Judged
+fn width_judged(g: Sampling, own: usize) -> Judged
     ensures { λ r. ⌜ r ≡ widthTestIn own (g .width) (g .first) ⌝ }
 {
     if own == 0 {
@@ -101,7 +101,7 @@ fn alone_of(n: usize, s: u64, home: u64, alone: bool) -> bool
 }
 
 // One component more, n before it.
-pub fn with_part(g: Sampling, p: Part, n: usize) -> Sampling
+fn with_part(g: Sampling, p: Part, n: usize) -> Sampling
     requires { ⌜ (g .spots .count < 8) × (g .width ≤ 32) × Modest p ⌝ }
     ensures { λ r. ⌜ Widened g p n r ⌝ }
 {

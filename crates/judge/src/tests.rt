@@ -60,7 +60,7 @@ fn room_for_component(x: Tally) -> Judged
 }
 
 // 5 and 10, 12, then the fields left to right.
-pub fn form_judged(form: Form, line: &[u8], x: Tally, words: &[u64], bits: &[u64]) -> Judged
+fn form_judged(form: Form, line: &[u8], x: Tally, words: &[u64], bits: &[u64]) -> Judged
     ensures { λ r. ⌜ r ≡ formTests form x (now (words .entry)) (now (bits .entry)) (now (line .entry)) ⌝ }
 {
     match form {

@@ -14,7 +14,7 @@ abbrev pub chained : List Judged → Judged
 chained [] = Passes
 chained (j ∷ js) = after j js
 
-pub after-first : (j : Judged) (js : List Judged) → after j js ≡ orElse j (first js)
+after-first : (j : Judged) (js : List Judged) → after j js ≡ orElse j (first js)
 unfolding first
 after-first j [] = sym (else-none j)
 after-first j (k ∷ ks) = after-first (orElse j k) ks ∙ else-assoc j k (first ks) ∙ sym (ap (orElse j) (first-step k ks))
@@ -25,7 +25,7 @@ chained-first [] = refl
 chained-first (j ∷ js) = after-first j js ∙ sym (first-step j js)
 
 -- one list after another
-pub append-first : (is js : List Judged) → orElse (first is) (first js) ≡ first (is ++ js)
+append-first : (is js : List Judged) → orElse (first is) (first js) ≡ first (is ++ js)
 unfolding first
 append-first [] js = refl
 append-first (k ∷ ks) js =

@@ -19,7 +19,7 @@ use Rattle.lineforms.specs.Said.{lowOf, highOf, partIn, Modest}
 use Rattle.lineforms.specs.declared.said.Part.{Part}
 
 -- a number within limits is at most the highest
-pub amount-most : (n least most : ℕ) (f : List ℕ) → amountOf (integerOf n least most f) ≤ most
+amount-most : (n least most : ℕ) (f : List ℕ) → amountOf (integerOf n least most f) ≤ most
 unfolding integerOf integerJudged first
 amount-most n least most f = go (isEmpty f) (not (digitsUpTo 10 n f)) (leb least (number 10 f)) (leb (number 10 f) most) refl
   where

@@ -12,7 +12,7 @@ use Rattle.listed.specs.Decimals.{digitsIn, decimalText, minus, valueTex
 use Rattle.listed.proofs.DecimalLaws.{ten-more}
 
 -- how a reader takes a number: digit after digit, each ten times what stood before
-abbrev pub readOn : ℕ → List ℕ → ℕ
+abbrev readOn : ℕ → List ℕ → ℕ
 readOn v [] = v
 readOn v (d ∷ ds) = readOn (10 * v + (d - 48)) ds
 

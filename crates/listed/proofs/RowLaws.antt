@@ -97,7 +97,7 @@ module _ (b : List ℕ) (h : Ruled b) (i : ℕ) (l : i < parametersIn b) where
         let k = listed-at b i j h l m in
         subst (λ (s : Sample). 1 ≤ widthOf (subframesOf b) s) (sym (k .is)) (width-some (subframesOf b) (sampleAt b (firstSampleIn b i + j)) (k .law .each) (k .law .some))
 
-    pub value-fits : SFits w64 (valueOf (view b) f i j)
+    value-fits : SFits w64 (valueOf (view b) f i j)
     unfolding valueOf
     value-fits = go (parameter (view b) i .signed)
       where

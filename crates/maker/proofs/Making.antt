@@ -110,7 +110,7 @@ module _ (K : Book) (clear : K .opened ≡ noParameter) (none : K .parts ≡ [])
       ∙ (ap (λ (v : ℕ). five-counts (K .declared) (parameters C) (x .samples) v (textStart C (parameters C))) components-same
       ∙ ap (λ (v : ℕ). five-counts (K .declared) (parameters C) (x .samples) (x .components) v) text-same))
 
-  pub header-same : headerFields 1 (contentOf K) ≡ headerBy (countsBy (tallyOf K)) (K .sequential)
+  header-same : headerFields 1 (contentOf K) ≡ headerBy (countsBy (tallyOf K)) (K .sequential)
   header-same = header-by (contentOf K) ∙ ap (λ (n : Counts). headerBy n (K .sequential)) counts-same
 
   -- the walk's bytes and the header are the table

@@ -32,7 +32,7 @@ use Rattle.maker.proofs.Making.{write-long, fits-all, table-made}
 use Rattle.maker.proofs.Room.{laid-long}
 
 -- the answer, and the lent bytes afterwards
-abbrev pub Leaves : List ℕ → List ℕ → Made → List ℕ → Type 0
+abbrev Leaves : List ℕ → List ℕ → Made → List ℕ → Type 0
 Leaves s out m after = (m ≡ madeOf (judgeOf s) (length out)) × (after ≡ leftOf (judgeOf s) out)
 
 -- ---- refused

@@ -66,7 +66,7 @@ module _ (b : List ℕ) where
     identification-length =
         length-part (identificationLengthIn b i) b (textPart b + textStartIn b i + nameLengthIn b i + mnemonicLengthIn b i) (omega arith)
 
-    pub texts-length : length (texts (parameterAt b i)) ≡ textLengthIn b i
+    texts-length : length (texts (parameterAt b i)) ≡ textLengthIn b i
     unfolding texts parameterAt
     texts-length =
         let n = name-length in

@@ -70,7 +70,7 @@ fn components_ok(t: &[u8], j: usize) -> bool
 }
 
 // Component k of all, with its word's position in the frame.
-pub fn piece_at(t: &[u8], k: usize, bases: Bases) -> Component
+fn piece_at(t: &[u8], k: usize, bases: Bases) -> Component
     requires { ⌜ Sized (now t) ⌝ }
     requires { ⌜ k < componentsIn (now t) ⌝ }
     requires { ⌜ SubframesLaw (now t) ⌝ }

@@ -100,7 +100,7 @@ places-all base n i total s h =
 ten-more : (i : ℕ) → 10 ^ (i + 1) ≡ 10 ^ i * 10
 ten-more i = rw (add-one, pow-suc)
 
-pub ten-ten : (i : ℕ) → i ≤ 10 → 10 ^ i ≤ 10000000000
+ten-ten : (i : ℕ) → i ≤ 10 → 10 ^ i ≤ 10000000000
 ten-ten i h = pow-le-pow-right {n = 10} (omega arith) h
 
 pub ten-six : (i : ℕ) → i ≤ 6 → 10 ^ i ≤ 1000000

@@ -20,7 +20,7 @@ or-right false b e h = absurd (ff e)
     ff p = let o : _≡_ {A = ℕ} 0 1 = cc in omega arith
 
 -- more digits may be allowed
-pub up-more : (base n m : ℕ) (l : List ℕ) → n ≤ m → digitsUpTo base n l ≡ true → digitsUpTo base m l ≡ true
+up-more : (base n m : ℕ) (l : List ℕ) → n ≤ m → digitsUpTo base n l ≡ true → digitsUpTo base m l ≡ true
 unfolding digitsUpTo
 up-more base n m l h e =
     let k = up-few base n l e in
@@ -39,7 +39,7 @@ module _ (mark n m : ℕ) (l : List ℕ) (h : isMarked mark n m l ≡ true) wher
   mark-right e = or-right (holds mark l) (digitsUpTo 10 m (past mark l)) e rest-holds
 
 -- nothing follows a mark that is not there
-pub past-none : (mark : ℕ) (l : List ℕ) → holds mark l ≡ false → past mark l ≡ []
+past-none : (mark : ℕ) (l : List ℕ) → holds mark l ≡ false → past mark l ≡ []
 unfolding holds past
 past-none mark l e =
     let k = ltb-false (indexOf mark l) (length l) e in

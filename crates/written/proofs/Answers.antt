@@ -17,7 +17,7 @@ use Rattle.spell.specs.declared.answers.Seconds.{Seconds}
 use Rattle.spell.specs.declared.answers.Seconds.the-variants as seconds
 
 -- one of two, and not both
-abbrev pub OneOf : Type 0 → Type 0 → Type 0
+abbrev OneOf : Type 0 → Type 0 → Type 0
 OneOf A B = (A ⊎ B) × (A → B → ⊥)
 
 pub judged-one : (a : Judged) → OneOf (a ≡ judged.Passes) ((r : Refusal) × (a ≡ judged.Refused r))

@@ -177,7 +177,7 @@ module _ (f : List ℕ) (top bottom : ℕ) (positive : 1 ≤ bottom) where
   see (inr (inl r)) = see-fraction r
   see (inr (inr r)) = see-mixed r
 
-  pub seconds-passes : IsSeconds f top bottom → 1 ≤ top → (secondsJudged f ≡ Passes) × (top ≡ topOf f) × (bottom ≡ bottomOf f)
+  seconds-passes : IsSeconds f top bottom → 1 ≤ top → (secondsJudged f ≡ Passes) × (top ≡ topOf f) × (bottom ≡ bottomOf f)
   unfolding secondsJudged
   seconds-passes w h =
       let v = see w in

@@ -51,7 +51,7 @@ module _ (a b n d : ℕ) (one : n * b ≡ a * d) (p : lowest a b ≡ true) (q : 
 -- ---- what is stored, in plain words
 
 module _ (top bottom : ℕ) (h : 1 ≤ bottom) where
-  pub stored-lowest : IsLowest top bottom (lowestTerms top bottom .numerator) (lowestTerms top bottom .denominator)
+  stored-lowest : IsLowest top bottom (lowestTerms top bottom .numerator) (lowestTerms top bottom .denominator)
   stored-lowest =
       record {
         value = same-value top bottom h;
@@ -75,11 +75,11 @@ module _ (top bottom : ℕ) (h : 1 ≤ bottom) where
         ∙ ap (λ (x : ℕ). x * bottom) (mul-comm d m) in
         eq-of-mul-eq-mul-right bottom h (n * e) (m * d) p
 
-    pub lowest-below : d ≡ lowestTerms top bottom .denominator
+    lowest-below : d ≡ lowestTerms top bottom .denominator
     lowest-below =
         sym (same-below (lowestTerms top bottom .numerator) (lowestTerms top bottom .denominator) n d crossed (in-lowest top bottom h) (one-lowest n d (l .terms)))
 
-    pub lowest-above : n ≡ lowestTerms top bottom .numerator
+    lowest-above : n ≡ lowestTerms top bottom .numerator
     lowest-above =
         same-above (lowestTerms top bottom .numerator) (lowestTerms top bottom .denominator) n d crossed (in-lowest top bottom h) (one-lowest n d (l .terms)) (denominator-positive top bottom h)
 

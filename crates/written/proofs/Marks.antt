@@ -17,7 +17,7 @@ use Rattle.written.specs.Words.{Without}
 
 -- ---- a list without the mark
 
-pub without-index : (b : ℕ) (l : List ℕ) → Without b l → indexOf b l ≡ length l
+without-index : (b : ℕ) (l : List ℕ) → Without b l → indexOf b l ≡ length l
 unfolding indexOf
 without-index b [] h = refl
 without-index b (x ∷ l) h = rw (ne-eqb x b (h 0 (omega arith)), without-index b l (λ i k. h (suc i) (omega arith)))
@@ -35,7 +35,7 @@ unfolding past
 without-past b l h = drop-end l (indexOf b l + 1) (omega (arith, without-index b l h))
 
 -- before its first place it does not stand
-pub before-index : (b : ℕ) (l : List ℕ) (i : ℕ) → i < indexOf b l → getD l i 0 ≡ b → ⊥
+before-index : (b : ℕ) (l : List ℕ) (i : ℕ) → i < indexOf b l → getD l i 0 ≡ b → ⊥
 unfolding indexOf
 before-index b [] i h e = let z : ⊥ = omega arith in z
 before-index b (x ∷ l) i h e = go (λ i. before-index b l i) (eqb x b) refl i h e
@@ -54,7 +54,7 @@ without-exactly b l = (holds-without b l, without-holds b l)
 
 -- ---- a list with the mark
 
-pub mark-index : (b : ℕ) (w p : List ℕ) → Without b w → indexOf b (w ++ (b ∷ p)) ≡ length w
+mark-index : (b : ℕ) (w p : List ℕ) → Without b w → indexOf b (w ++ (b ∷ p)) ≡ length w
 unfolding indexOf
 mark-index b [] p h = rw (eq-eqb b b refl)
 mark-index b (x ∷ w) p h = rw (ne-eqb x b (h 0 (omega arith)), mark-index b w p (λ i k. h (suc i) (omega arith)))

@@ -12,10 +12,10 @@ use Rattle.spell.specs.Digits.{allDigits, digitsUpTo}
 use Rattle.spell.proofs.DigitLaws.{digit-at, up-some, up-few, up-digits}
 use Rattle.written.specs.Words.{Digit, Numeral, Without}
 
-pub all-each : (base : ℕ) (l : List ℕ) → allDigits base l ≡ true → (i : ℕ) → i < length l → Digit base (getD l i 0)
+all-each : (base : ℕ) (l : List ℕ) → allDigits base l ≡ true → (i : ℕ) → i < length l → Digit base (getD l i 0)
 all-each base l e i h = let d = digit-at base l i h e in record { least = d .0; below = d .1 }
 
-pub each-all : (base : ℕ) (l : List ℕ) → ((i : ℕ) → i < length l → Digit base (getD l i 0)) → allDigits base l ≡ true
+each-all : (base : ℕ) (l : List ℕ) → ((i : ℕ) → i < length l → Digit base (getD l i 0)) → allDigits base l ≡ true
 unfolding allDigits
 each-all base [] h = refl
 each-all base (b ∷ l) h =

@@ -32,7 +32,7 @@ last-place base (suc n) total l =
     last-place base n (total * base + placeOf l) (drop 1 l)
     ∙ ap (λ (m : List ℕ). places base n (total * base + placeOf l) (drop 1 l) * base + placeOf m) (drop-drop n 1 l ∙ ap (λ (k : ℕ). drop k l) e)
 
-pub places-more : (base n total : ℕ) (l : List ℕ) → places base (suc n) total l ≡ places base n total l * base + digitAt l n
+places-more : (base n total : ℕ) (l : List ℕ) → places base (suc n) total l ≡ places base n total l * base + digitAt l n
 places-more base n total l = last-place base n total l ∙ ap (λ (d : ℕ). places base n total l * base + d) (place-at l n)
 
 sum-times : (n : ℕ) (f : ℕ → ℕ) (c : ℕ) → sum n f * c ≡ sum n (λ i. f i * c)
@@ -89,7 +89,7 @@ digit-small base l p h i = go (decLt i (length l))
     go (no k) = omega (arith, List·getD-eq-default l 0 {n = i} (omega arith))
 
 -- n places of digits are below base ^ n
-pub places-below : (base n : ℕ) (l : List ℕ) → 0 < base → ((i : ℕ) → i < length l → Digit base (getD l i 0)) → places base n 0 l < base ^ n
+places-below : (base n : ℕ) (l : List ℕ) → 0 < base → ((i : ℕ) → i < length l → Digit base (getD l i 0)) → places base n 0 l < base ^ n
 places-below base zero l p h = unfold places in omega (arith, pow-zero base)
 places-below base (suc n) l p h =
     let k = places-below base n l p h in

@@ -28,14 +28,14 @@ decimal-small f v (inr p) = omega (arith, p .value, six-below (p .before) (p .di
 mixed-small : (w n d : ℕ) → w < 1000000 → n < d → w * d + n < 1000000 * d
 mixed-small w n d h k = omega (arith, suc-mul w d, mul-le-mul-right {m = suc w} {n = 1000000} d h)
 
-pub written-below : (f : List ℕ) (top bottom : ℕ) → IsSeconds f top bottom → 1 ≤ bottom → top < 1000000 * bottom
+written-below : (f : List ℕ) (top bottom : ℕ) → IsSeconds f top bottom → 1 ≤ bottom → top < 1000000 * bottom
 written-below f top bottom (inl d) h = omega (arith, decimal-small f top (d .digits), d .denominator)
 written-below f top bottom (inr (inl r)) h = omega (arith, r .numerator, six-below (r .above) (r .digits .left))
 written-below f top bottom (inr (inr r)) h =
     omega
     (arith, r .numerator, r .denominator, mixed-small (number 10 (r .whole)) (number 10 (r .above)) (number 10 (r .under)) (six-below (r .whole) (r .wholeDigits)) (r .notAll))
 
-pub bottom-small : (f : List ℕ) (top bottom : ℕ) → IsSeconds f top bottom → bottom ≤ 1000000
+bottom-small : (f : List ℕ) (top bottom : ℕ) → IsSeconds f top bottom → bottom ≤ 1000000
 bottom-small f top bottom (inl d) = omega (arith, d .denominator)
 bottom-small f top bottom (inr (inl r)) = omega (arith, r .denominator, six-below (r .under) (r .digits .right))
 bottom-small f top bottom (inr (inr r)) = omega (arith, r .denominator, six-below (r .under) (r .underDigits))

@@ -56,7 +56,7 @@ some-truth f (inr (inr (inl e))) = rw e
 some-truth f (inr (inr (inr e))) = rw e
 
 -- the test that takes both, and which of them
-pub test-truth : (f : List ℕ) → (saysTrue f || saysFalse f) ≡ true → IsTruth f (saysTrue f)
+test-truth : (f : List ℕ) → (saysTrue f || saysFalse f) ≡ true → IsTruth f (saysTrue f)
 test-truth f e = go (saysTrue f) refl e
   where
     go : (t : Bool) → saysTrue f ≡ t → (t || saysFalse f) ≡ true → IsTruth f t
