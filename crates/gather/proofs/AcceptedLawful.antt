@@ -39,7 +39,7 @@ use Rattle.gather.proofs.Counts.{samples-counted, components-counted}
 use Rattle.gather.proofs.Sound.{Between, Sound}
 use Rattle.gather.proofs.Steps.{sound-step}
 
-never : {A : Type 0} (r : Refusal) (k : ℕ) (c : Content) → Refused r k ≡ Accepted c → A
+pub never : {A : Type 0} (r : Refusal) (k : ℕ) (c : Content) → Refused r k ≡ Accepted c → A
 never r k c e = absurd (let z : _≡_ {A = ℕ} 0 1 = cc in omega arith)
 
 -- ---- 16, after the last line
@@ -100,24 +100,29 @@ end-lawful K os c h e =
     let r = identified-accepted (contentOf K) os c e in
     rw (r .same) (between-lawful K h (r .obeys))
 
+-- the end rules only where no line is due
+pub at-end-only : (d : Due) (K : Book) (os : List ℕ) (k : ℕ) (c : Content) (P : Due → Type 0) → (identified (contentOf K) os ≡ Accepted c → P due.NextParameter) → (identified (contentOf K) os ≡ Accepted c → P due.Nothing) → atEnd d K os k ≡ Accepted c → P d
+at-end-only due.HeaderWord K os k c P p q e = never Unended k c e
+at-end-only due.HeaderLine K os k c P p q e = never Unended k c e
+at-end-only due.RecordWord K os k c P p q e = never Unended k c e
+at-end-only due.RecordLine K os k c P p q e = never Unended k c e
+at-end-only due.Opening K os k c P p q e = never Unended k c e
+at-end-only due.NameLine K os k c P p q e = never Unended k c e
+at-end-only due.FirstComponent K os k c P p q e = never Unended k c e
+at-end-only due.NextComponent K os k c P p q e = never Unended k c e
+at-end-only due.AfterSample K os k c P p q e = never Unended k c e
+at-end-only due.SignedLine K os k c P p q e = never Unended k c e
+at-end-only due.RangeLine K os k c P p q e = never Unended k c e
+at-end-only due.SourceLine K os k c P p q e = never Unended k c e
+at-end-only due.AfterSource K os k c P p q e = never Unended k c e
+at-end-only due.SourceBlank K os k c P p q e = never Unended k c e
+at-end-only due.AfterSourceBlank K os k c P p q e = never Unended k c e
+at-end-only due.NextParameter K os k c P p q e = p e
+at-end-only due.Nothing K os k c P p q e = q e
+
 at-end-lawful : (d : Due) (K : Book) (os : List ℕ) (k : ℕ) (c : Content) → Sound d K → atEnd d K os k ≡ Accepted c → lawful base c ≡ true
-at-end-lawful due.HeaderWord K os k c h e = never Unended k c e
-at-end-lawful due.HeaderLine K os k c h e = never Unended k c e
-at-end-lawful due.RecordWord K os k c h e = never Unended k c e
-at-end-lawful due.RecordLine K os k c h e = never Unended k c e
-at-end-lawful due.Opening K os k c h e = never Unended k c e
-at-end-lawful due.NameLine K os k c h e = never Unended k c e
-at-end-lawful due.FirstComponent K os k c h e = never Unended k c e
-at-end-lawful due.NextComponent K os k c h e = never Unended k c e
-at-end-lawful due.AfterSample K os k c h e = never Unended k c e
-at-end-lawful due.SignedLine K os k c h e = never Unended k c e
-at-end-lawful due.RangeLine K os k c h e = never Unended k c e
-at-end-lawful due.SourceLine K os k c h e = never Unended k c e
-at-end-lawful due.AfterSource K os k c h e = never Unended k c e
-at-end-lawful due.SourceBlank K os k c h e = never Unended k c e
-at-end-lawful due.AfterSourceBlank K os k c h e = never Unended k c e
-at-end-lawful due.NextParameter K os k c h e = end-lawful K os c h e
-at-end-lawful due.Nothing K os k c h e = end-lawful K os c h e
+at-end-lawful d K os k c h e =
+    at-end-only d K os k c (λ f. Sound f K → lawful base c ≡ true) (λ r g. end-lawful K os c g r) (λ r g. end-lawful K os c g r) e h
 
 -- ---- the lines
 

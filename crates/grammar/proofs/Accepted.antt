@@ -12,7 +12,6 @@ use Rattle.text.specs.Fields.{fieldCount}
 use Rattle.text.specs.Keywords.{headerWord, keywordOf}
 use Rattle.text.specs.declared.keyword.Keyword.{Keyword}
 use Rattle.text.specs.declared.keyword.Keyword.the-variants as keyword
-use Rattle.text.specs.declared.refusal.Refusal.{Refusal}
 use Rattle.text.specs.declared.refusal.Refusal.the-variants.{SheetTooLong, Unended}
 use Rattle.text.specs.declared.refusal.Judged.{Judged}
 use Rattle.text.specs.declared.refusal.Judged.the-variants as judged
@@ -29,7 +28,7 @@ use Rattle.gather.specs.Tests.{testsOf}
 use Rattle.gather.specs.Ruling.{Accepted, Refused, identified, atEnd, formAt, opens, onJudged, run, longestSheet, judgeOf}
 use Rattle.gather.proofs.Sound.{Between, Sound}
 use Rattle.gather.proofs.Steps.{sound-step}
-use Rattle.gather.proofs.AcceptedLawful.{identified-accepted, accepted-lawful}
+use Rattle.gather.proofs.AcceptedLawful.{never, identified-accepted, at-end-only, accepted-lawful}
 use Rattle.grammar.specs.Items.{Item}
 use Rattle.grammar.specs.Written.{Line, Written}
 use Rattle.grammar.specs.Says.{word, Says}
@@ -116,9 +115,6 @@ module _ (K : Book) (l : List ℕ) (c : Content) (ls : List (List Item)) where
 
 -- ---- the end
 
-refused : {A : Type 0} (r : Refusal) (k : ℕ) (c : Content) → Refused r k ≡ Accepted c → A
-refused r k c e = absurd (let z : _≡_ {A = ℕ} 0 1 = cc in omega arith)
-
 ends : (K : Book) (os : List ℕ) (c : Content) → Between K → identified (contentOf K) os ≡ Accepted c → Grows K c []
 ends K os c h e =
     let q = identified-accepted (contentOf K) os c e .same in
@@ -130,23 +126,11 @@ ends K os c h e =
     }
 
 at-end : (d : Due) (K : Book) (os : List ℕ) (k : ℕ) (c : Content) → Sound d K → atEnd d K os k ≡ Accepted c → Left d K c []
-at-end due.HeaderWord K os k c h e = refused Unended k c e
-at-end due.HeaderLine K os k c h e = refused Unended k c e
-at-end due.RecordWord K os k c h e = refused Unended k c e
-at-end due.RecordLine K os k c h e = refused Unended k c e
-at-end due.Opening K os k c h e = refused Unended k c e
-at-end due.NameLine K os k c h e = refused Unended k c e
-at-end due.FirstComponent K os k c h e = refused Unended k c e
-at-end due.NextComponent K os k c h e = refused Unended k c e
-at-end due.AfterSample K os k c h e = refused Unended k c e
-at-end due.SignedLine K os k c h e = refused Unended k c e
-at-end due.RangeLine K os k c h e = refused Unended k c e
-at-end due.SourceLine K os k c h e = refused Unended k c e
-at-end due.AfterSource K os k c h e = refused Unended k c e
-at-end due.SourceBlank K os k c h e = refused Unended k c e
-at-end due.AfterSourceBlank K os k c h e = refused Unended k c e
-at-end due.NextParameter K os k c h e = record { told = []; lines = refl; made = ends K os c h e; noParts = h .noParts }
-at-end due.Nothing K os k c h e = record { lines = refl; made = ends K os c h e }
+at-end d K os k c h e =
+    at-end-only d K os k c (λ f. Sound f K → Left f K c [])
+    (λ r g. record { told = []; lines = refl; made = ends K os c g r; noParts = g .noParts })
+    (λ r g. record { lines = refl; made = ends K os c g r })
+    e h
 
 -- ---- the lines
 
@@ -159,7 +143,7 @@ record Said (d : Due) (K : Book) (c : Content) (x : List ℕ) : Type 0 where
 run-said : (d : Due) (K : Book) (os : List ℕ) (k : ℕ) (ls : Lines) (c : Content) → Sound d K → run d K os k ls ≡ Accepted c → (x : List ℕ) → linesOf x ≡ ls → Said d K c x
 unfolding run
 run-said d K os k none c h e x q = record { lines = []; written = lines-none x q; left = at-end d K os (k + 1) c h e }
-run-said d K os k unended c h e x q = refused Unended (k + 1) c e
+run-said d K os k unended c h e x q = never Unended (k + 1) c e
 run-said d K os k (line l ls) c h e x q =
     go (lineJudged true l (testsOf (formAt d K l) K l)) refl
     (λ w r y z. run-said (dueAfter (formAt d K l)) (grow (formAt d K l) l K) (opens (formAt d K l) (k + 1) os) (k + 1) ls c w r y z)
@@ -174,7 +158,7 @@ run-said d K os k (line l ls) c h e x q =
         let s = ih (sound-step d K l h p) r (u .rest) (sym (u .left)) in
         let t = tells K l c (s .lines) d h (passed (formAt d K l) K l p) (s .left) in
         record { lines = t .items ∷ s .lines; written = (l, u .rest, u .written, t .line, s .written); left = t .left }
-    go (judged.Refused r) p ih s = refused r (k + 1) c s
+    go (judged.Refused r) p ih s = never r (k + 1) c s
 
 -- ---- the sheet
 
@@ -183,7 +167,7 @@ unfolding judgeOf
 accepted-says x c e = go (ltb longestSheet (length x)) refl e
   where
     go : (t : Bool) → ltb longestSheet (length x) ≡ t → cond t (Refused SheetTooLong 0) (run due.HeaderWord emptyBook [] 0 (linesOf x)) ≡ Accepted c → Says x c
-    go true p q = refused SheetTooLong 0 c q
+    go true p q = never SheetTooLong 0 c q
     go false p q =
         let s = run-said due.HeaderWord emptyBook [] 0 (linesOf x) c (record { noPairs = refl; noParameters = refl; noParts = refl }) q x refl in
         let h = s .left .left in

@@ -61,12 +61,19 @@ pub record PairLeft (K : Book) (c : Content) (ls : List (List Item)) : Type 0 wh
 
 -- ---- the parameters
 
--- the header and the pairs are whole, and more parameters come after those of K
-pub record Grows (K : Book) (c : Content) (more : List Parameter) : Type 0 where
-  pub sequential : c .sequential ≡ K .sequential
-  pub count : subframes c ≡ K .declared
-  pub subframes : c .subframes ≡ spread (K .declared) (K .pairs)
-  pub list : c .parameters ≡ K .parameters ++ more
+-- the header and the pairs are whole, and more parameters come after those that are
+pub record Grown (q : Bool) (s : ℕ) (pairs : List Subframe) (ps : List Parameter) (c : Content) (more : List Parameter) : Type 0 where
+  pub sequential : c .sequential ≡ q
+  pub count : subframes c ≡ s
+  pub subframes : c .subframes ≡ spread s pairs
+  pub list : c .parameters ≡ ps ++ more
+
+abbrev pub Grows : Book → Content → List Parameter → Type 0
+Grows K c more = Grown (K .sequential) (K .declared) (K .pairs) (K .parameters) c more
+
+-- the same, the parameters told otherwise
+pub regrown : {q : Bool} {s : ℕ} {pairs : List Subframe} {ps qs : List Parameter} {c : Content} {xs ys : List Parameter} → c .parameters ≡ qs ++ ys → Grown q s pairs ps c xs → Grown q s pairs qs c ys
+regrown e m = record { sequential = m .sequential; count = m .count; subframes = m .subframes; list = e }
 
 pub record ParametersLeft (K : Book) (c : Content) (ls : List (List Item)) : Type 0 where
   pub told : List Told
@@ -90,9 +97,9 @@ pub record NameLeft (K : Book) (c : Content) (ls : List (List Item)) : Type 0 wh
 
 -- ---- the samples of the open parameter
 
--- the open parameter with more samples, signed or not, and its value
-abbrev pub completed : Parameter → List Sample → Bool → ℕ → Parameter
-completed p ss signed value =
+-- the open parameter with these samples, signed or not, and its value
+abbrev pub filled : Parameter → Bool → ℕ → List Sample → Parameter
+filled p signed value ss =
     record {
       name = p .name;
       mnemonic = p .mnemonic;
@@ -100,8 +107,12 @@ completed p ss signed value =
       signed = signed;
       identifier = p .identifier;
       value = value;
-      samples = p .samples ++ ss;
+      samples = ss;
     }
+
+-- with more samples
+abbrev pub completed : Parameter → List Sample → Bool → ℕ → Parameter
+completed p ss signed value = filled p signed value (p .samples ++ ss)
 
 -- what comes after its samples
 pub record Closing : Type 0 where
@@ -140,16 +151,7 @@ pub record PartsLeft (K : Book) (c : Content) (ls : List (List Item)) : Type 0 w
 -- ---- the end of the open parameter
 
 abbrev pub finished : Parameter → Bool → ℕ → Parameter
-finished p signed value =
-    record {
-      name = p .name;
-      mnemonic = p .mnemonic;
-      identification = p .identification;
-      signed = signed;
-      identifier = p .identifier;
-      value = value;
-      samples = p .samples;
-    }
+finished p signed value = filled p signed value (p .samples)
 
 abbrev pub sourced : List Source → List Told → List (List Item)
 sourced sources more = sourceLines sources ++ (blank ∷ parameterLines more)

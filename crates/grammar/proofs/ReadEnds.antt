@@ -18,7 +18,7 @@ use Rattle.grammar.specs.Written.{Line}
 use Rattle.grammar.specs.Says.{blank, signedLine, rangeLine, Source, plain, labelled, sourceLine, labelLine, Told, parametersOf, parameterLines}
 use Rattle.grammar.proofs.Partings.{blank-count}
 use Rattle.grammar.proofs.ClosingKinds.{RangeRead, SourceRead, signed-read, range-read, source-read, label-read}
-use Rattle.grammar.proofs.Left.{Grows, finished, sourced, SignedLeft, RangeLeft, SourceLeft, SourceEndsLeft, SourceBlankLeft, AfterSourceLeft}
+use Rattle.grammar.proofs.Left.{regrown, Grows, finished, sourced, SignedLeft, RangeLeft, SourceLeft, SourceEndsLeft, SourceBlankLeft, AfterSourceLeft}
 use Rattle.grammar.proofs.Middles.{middle-law}
 use Rattle.grammar.proofs.Passings.{none-passes}
 use Rattle.grammar.proofs.ReadLines.{Step, first-line, line-passes, count-form, either-form, other-form}
@@ -50,12 +50,7 @@ module _ (K : Book) (l : List ℕ) (c : Content) (items : List Item) (ls : List 
               more = e .more;
               lines = f .rest;
               made =
-                  record {
-                    sequential = m .sequential;
-                    count = m .count;
-                    subframes = m .subframes;
-                    list = rw (r .says) (m .list);
-                  };
+                  regrown (rw (r .says) (m .list)) m;
               noParts = x .noParts;
             };
         begun = tt;
@@ -81,12 +76,7 @@ module _ (K : Book) (l : List ℕ) (c : Content) (items : List Item) (ls : List 
               more = x .more;
               lines = f .rest;
               made =
-                  record {
-                    sequential = m .sequential;
-                    count = m .count;
-                    subframes = m .subframes;
-                    list = rw (value-kept i l (x .value) (a .plain) r) (m .list);
-                  };
+                  regrown (rw (value-kept i l (x .value) (a .plain) r) (m .list)) m;
               noParts = x .noParts;
             };
         begun = tt;
@@ -176,12 +166,7 @@ module _ (K : Book) (l : List ℕ) (c : Content) (items : List Item) (ls : List 
                   told = x .more;
                   lines = f .rest;
                   made =
-                      record {
-                        sequential = m .sequential;
-                        count = m .count;
-                        subframes = m .subframes;
-                        list = rw (append-assoc (K .parameters) (K .opened ∷ []) (parametersOf (x .more))) (m .list);
-                      };
+                      regrown (rw (append-assoc (K .parameters) (K .opened ∷ []) (parametersOf (x .more))) (m .list)) m;
                   noParts = x .noParts;
                 };
             begun = tt;

@@ -27,7 +27,7 @@ use Rattle.grammar.specs.Written.{Line}
 use Rattle.grammar.specs.Says.{word, recordLine, recordLines, bodyLines, nameLine, sampleLines, closingLines, Told, parametersOf, parameterLines}
 use Rattle.grammar.proofs.Partings.{word-trim}
 use Rattle.grammar.proofs.ParameterKinds.{NameRead, name-read}
-use Rattle.grammar.proofs.Left.{Pairs, RecordsLeft, Grows, ParametersLeft, NameLeft}
+use Rattle.grammar.proofs.Left.{regrown, Pairs, RecordsLeft, Grows, ParametersLeft, NameLeft}
 use Rattle.grammar.proofs.Middles.{each-apart, middle-law, middle-room, middle-apart}
 use Rattle.grammar.proofs.Passings.{none-passes}
 use Rattle.grammar.proofs.Worded.{spoken-record, spoken-none, spoken-parameter}
@@ -204,12 +204,7 @@ module _ (K : Book) (l : List ℕ) (c : Content) (items : List Item) (ls : List 
                         };
                     lines = rw (r .identifier) (f .rest);
                     made =
-                        record {
-                          sequential = m .sequential;
-                          count = m .count;
-                          subframes = m .subframes;
-                          list = rw (r .name, r .mnemonic, r .identification, r .identifier) (m .list);
-                        };
+                        regrown (rw (r .name, r .mnemonic, r .identification, r .identifier) (m .list)) m;
                     noParts = x .noParts;
                   };
               some = q .some;

@@ -22,7 +22,7 @@ use Rattle.grammar.specs.Written.{Line}
 use Rattle.grammar.specs.Says.{componentLine, componentLines, sampleLines, parametersOf}
 use Rattle.grammar.proofs.Partings.{blank-count}
 use Rattle.grammar.proofs.ParameterKinds.{Within, ComponentRead, component-read, time-read}
-use Rattle.grammar.proofs.Left.{Grows, Closing, completed, closed, whole, SamplesLeft, FirstSampleLeft, PartsLeft}
+use Rattle.grammar.proofs.Left.{regrown, Grows, Closing, completed, closed, whole, SamplesLeft, FirstSampleLeft, PartsLeft}
 use Rattle.grammar.proofs.Middles.{components-join, middle-law, middle-samples, middle-components, sample-law, sample-room, width-passes, part-law, part-room, joined-passes}
 use Rattle.grammar.proofs.Passings.{Passing, none-passes}
 use Rattle.grammar.proofs.ReadLines.{Step, First, first-line, line-passes, count-form, either-form, other-form}
@@ -143,12 +143,7 @@ module _ (K : Book) (l : List ℕ) (c : Content) (ls : List (List Item)) (h : La
         closing = w .closing;
         lines = x .first .rest;
         made =
-            record {
-              sequential = m .sequential;
-              count = m .count;
-              subframes = m .subframes;
-              list = rw (comes-read .says, append-assoc (K .parts) (x .component ∷ []) (w .parts)) (m .list);
-            };
+            regrown (rw (comes-read .says, append-assoc (K .parts) (x .component ∷ []) (w .parts)) (m .list)) m;
       }
 
   opens-passes : Passing form.OpeningComponent K l
@@ -179,12 +174,7 @@ module _ (K : Book) (l : List ℕ) (c : Content) (items : List Item) (ls : List 
                   samples = ss;
                   closing = e;
                   made =
-                      record {
-                        sequential = m .sequential;
-                        count = m .count;
-                        subframes = m .subframes;
-                        list = rw (n, ← r) (m .list);
-                      };
+                      regrown (rw (n, ← r) (m .list)) m;
                 };
             first = first-line l items (componentLine k) ls (rest K ks (s .time) ss e) line (rw a at q);
           }
@@ -232,12 +222,7 @@ module _ (K : Book) (l : List ℕ) (c : Content) (items : List Item) (ls : List 
                   closing = x .closing;
                   lines = f .rest;
                   made =
-                      record {
-                        sequential = m .sequential;
-                        count = m .count;
-                        subframes = m .subframes;
-                        list = rw (append-nil (K .opened .samples)) at (m .list);
-                      };
+                      regrown (rw (append-nil (K .opened .samples)) at (m .list)) m;
                   noParts = x .noParts;
                 };
             begun = tt;
@@ -289,12 +274,7 @@ module _ (K : Book) (l : List ℕ) (c : Content) (items : List Item) (ls : List 
               closing = x .closing;
               lines = x .first .rest;
               made =
-                  record {
-                    sequential = m .sequential;
-                    count = m .count;
-                    subframes = m .subframes;
-                    list = rw (r .says, append-assoc (K .opened .samples) (s ∷ []) (x .samples)) (m .list);
-                  };
+                  regrown (rw (r .says, append-assoc (K .opened .samples) (s ∷ []) (x .samples)) (m .list)) m;
               noParts = refl;
             };
         begun = tt;
@@ -314,12 +294,7 @@ module _ (K : Book) (l : List ℕ) (c : Content) (items : List Item) (ls : List 
             closing = x .closing;
             first = first-line l items (time (x .at) ∷ []) ls (sampleLines (x .samples) ++ closed K (x .closing)) line q;
             made =
-                record {
-                  sequential = m .sequential;
-                  count = m .count;
-                  subframes = m .subframes;
-                  list = rw (append-nil (K .parts)) at (m .list);
-                };
+                regrown (rw (append-nil (K .parts)) at (m .list)) m;
           })
       go (k ∷ parts) q m =
           next-component

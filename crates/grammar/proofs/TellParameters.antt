@@ -17,19 +17,9 @@ use Rattle.grammar.specs.Written.{Line}
 use Rattle.grammar.specs.Says.{blank, nameLine, componentLine, componentLines, sampleLines, signedLine, rangeLine, plain, labelled, sourceLine, labelLine, parametersOf}
 use Rattle.grammar.proofs.ParameterKinds.{name-told, component-told, time-told}
 use Rattle.grammar.proofs.ClosingKinds.{signed-told, range-told, source-told, label-told}
-use Rattle.grammar.proofs.Left.{Left, Grows, Closing, SamplesLeft, PartsLeft, SourceEndsLeft, SourceBlankLeft, completed, closed, whole}
+use Rattle.grammar.proofs.Left.{Left, regrown, SamplesLeft, PartsLeft, SourceLeft, SourceEndsLeft, SourceBlankLeft, AfterSourceLeft, filled, completed, closed, whole}
 use Rattle.grammar.proofs.Passings.{Passing}
 use Rattle.grammar.proofs.Tells.{Tells, blank-line}
-
--- the same, with the list of parameters said otherwise
-pub grown : {K : Book} {c : Content} (xs ys : List Parameter) → xs ≡ ys → Grows K c xs → Grows K c ys
-grown {K} xs ys e m =
-    record {
-      sequential = m .sequential;
-      count = m .count;
-      subframes = m .subframes;
-      list = m .list ∙ ap (λ (l : List Parameter). K .parameters ++ l) e;
-    }
 
 module _ (K : Book) (l : List ℕ) (c : Content) (ls : List (List Item)) where
   pub tells-names : fieldCount l ≡ 7 → Tells due.NameLine K l c ls form.NameLine
@@ -45,12 +35,7 @@ module _ (K : Book) (l : List ℕ) (c : Content) (ls : List (List Item)) where
               more = y .closing .more;
               lines = ap (λ (k : List (List Item)). nameLine q ∷ k) (y .lines);
               made =
-                  record {
-                    sequential = y .made .sequential;
-                    count = y .made .count;
-                    subframes = y .made .subframes;
-                    list = y .made .list;
-                  };
+                  y .made;
               noParts = s .between .noParts;
             };
       }
@@ -69,16 +54,10 @@ module _ (K : Book) (l : List ℕ) (c : Content) (ls : List (List Item)) where
             ap (λ (k : List (List Item)). componentLine (componentOf l) ∷ k)
             (x .lines ∙ sym (append-assoc (componentLines (x .parts)) ((time (x .at) ∷ []) ∷ sampleLines (x .samples)) (closed K (x .closing))));
         made =
-            record {
-              sequential = x .made .sequential;
-              count = x .made .count;
-              subframes = x .made .subframes;
-              list =
-                  x .made .list
-                  ∙ ap
-                  (λ (k : Sample). K .parameters ++ (completed (K .opened) (k ∷ x .samples) (x .closing .signed) (x .closing .value) ∷ parametersOf (x .closing .more)))
-                  w;
-            };
+            regrown (x .made .list
+            ∙ ap
+            (λ (k : Sample). K .parameters ++ (completed (K .opened) (k ∷ x .samples) (x .closing .signed) (x .closing .value) ∷ parametersOf (x .closing .more)))
+            w) (x .made);
         noParts = z;
       }
 
@@ -112,31 +91,16 @@ module _ (K : Book) (l : List ℕ) (c : Content) (ls : List (List Item)) where
               closing = x .closing;
               lines = ap (λ (k : List (List Item)). componentLine (componentOf l) ∷ k) (x .lines);
               made =
-                  record {
-                    sequential = x .made .sequential;
-                    count = x .made .count;
-                    subframes = x .made .subframes;
-                    list =
-                        x .made .list
-                        ∙ ap
-                        (λ (k : List Component). K .parameters ++ (completed (K .opened) (record { time = x .at; components = k } ∷ x .samples) (x .closing .signed) (x .closing .value) ∷ parametersOf (x .closing .more)))
-                        (append-assoc (K .parts) (componentOf l ∷ []) (x .parts));
-                  };
+                  regrown (x .made .list
+                  ∙ ap
+                  (λ (k : List Component). K .parameters ++ (completed (K .opened) (record { time = x .at; components = k } ∷ x .samples) (x .closing .signed) (x .closing .value) ∷ parametersOf (x .closing .more)))
+                  (append-assoc (K .parts) (componentOf l ∷ []) (x .parts))) (x .made);
             };
       }
 
   pub tells-time : fieldCount l ≡ 1 → Tells due.NextComponent K l c ls form.TimeLine
   tells-time e s p x =
       let t : Sample = record { time = timeIn l; components = K .parts } in
-      let q : (k : List Sample) → Parameter = λ k. record {
-        name = K .opened .name;
-        mnemonic = K .opened .mnemonic;
-        identification = K .opened .identification;
-        signed = x .closing .signed;
-        identifier = K .opened .identifier;
-        value = x .closing .value;
-        samples = k;
-      } in
       record {
         items = time (timeIn l) ∷ [];
         line = record { short = p .short; fields = time-told l (p .clean) e (p .fields) };
@@ -148,30 +112,15 @@ module _ (K : Book) (l : List ℕ) (c : Content) (ls : List (List Item)) where
               closing = x .closing;
               lines = ap (λ (k : List (List Item)). (time (timeIn l) ∷ []) ∷ k) (x .lines);
               made =
-                  record {
-                    sequential = x .made .sequential;
-                    count = x .made .count;
-                    subframes = x .made .subframes;
-                    list =
-                        x .made .list
-                        ∙ ap (λ (k : List Sample). K .parameters ++ (q k ∷ parametersOf (x .closing .more)))
-                        (append-assoc (K .opened .samples) (t ∷ []) (x .samples)
-                        ∙ ap (λ (k : List Component). K .opened .samples ++ (record { time = timeIn l; components = k } ∷ x .samples)) (sym (append-nil (K .parts))));
-                  };
+                  regrown (x .made .list
+                  ∙ ap (λ (k : List Sample). K .parameters ++ (filled (K .opened) (x .closing .signed) (x .closing .value) k ∷ parametersOf (x .closing .more)))
+                  (append-assoc (K .opened .samples) (t ∷ []) (x .samples)
+                  ∙ ap (λ (k : List Component). K .opened .samples ++ (record { time = timeIn l; components = k } ∷ x .samples)) (sym (append-nil (K .parts))))) (x .made);
             };
       }
 
   pub tells-samples-end : fieldCount l ≡ 0 → Tells due.AfterSample K l c ls form.SamplesEnd
   tells-samples-end e s p x =
-      let q : (k : List Sample) → Parameter = λ k. record {
-        name = K .opened .name;
-        mnemonic = K .opened .mnemonic;
-        identification = K .opened .identification;
-        signed = x .closing .signed;
-        identifier = K .opened .identifier;
-        value = x .closing .value;
-        samples = k;
-      } in
       record {
         items = blank;
         line = blank-line K l c ls e (p .short);
@@ -180,7 +129,7 @@ module _ (K : Book) (l : List ℕ) (c : Content) (ls : List (List Item)) where
               samples = [];
               closing = x .closing;
               lines = ap (λ (k : List (List Item)). blank ∷ k) (x .lines);
-              made = grown _ _ (ap (λ (k : List Sample). q k ∷ parametersOf (x .closing .more)) (sym (append-nil (K .opened .samples)))) (x .made);
+              made = regrown (x .made .list ∙ ap (λ (k : List Sample). K .parameters ++ (filled (K .opened) (x .closing .signed) (x .closing .value) k ∷ parametersOf (x .closing .more))) (sym (append-nil (K .opened .samples)))) (x .made);
               noParts = x .noParts;
             };
       }
@@ -196,7 +145,7 @@ module _ (K : Book) (l : List ℕ) (c : Content) (ls : List (List Item)) where
             record {
               closing = record { signed = signedIn l; value = x .value; source = x .source; others = x .others; more = x .more };
               lines = ap (λ (k : List (List Item)). signedLine (signedIn l) ∷ k) (x .lines);
-              made = record { sequential = x .made .sequential; count = x .made .count; subframes = x .made .subframes; list = x .made .list };
+              made = x .made;
               noParts = x .noParts;
             };
       }
@@ -215,7 +164,7 @@ module _ (K : Book) (l : List ℕ) (c : Content) (ls : List (List Item)) where
               others = x .others;
               more = x .more;
               lines = ap (λ (k : List (List Item)). rangeLine i v ∷ k) (x .lines);
-              made = record { sequential = x .made .sequential; count = x .made .count; subframes = x .made .subframes; list = x .made .list };
+              made = x .made;
               noParts = x .noParts;
             };
       }
@@ -225,62 +174,23 @@ module _ (K : Book) (l : List ℕ) (c : Content) (ls : List (List Item)) where
   source-line : fieldCount l ≡ 3 → Passing form.SourceLine K l → Line l sourceLine
   source-line e p = record { short = p .short; fields = source-told l (p .clean) e (p .fields) }
 
+  -- one source more before those that are left
+  sourced-left : AfterSourceLeft K c ls → SourceLeft K c (sourceLine ∷ ls)
+  sourced-left (inl x) =
+      record { source = plain; others = x .sources; more = x .more; lines = ap (λ (k : List (List Item)). sourceLine ∷ k) (x .lines); made = x .made; noParts = x .noParts }
+  sourced-left (inr x) =
+      record { source = labelled; others = x .sources; more = x .more; lines = ap (λ (k : List (List Item)). sourceLine ∷ k) (x .lines); made = x .made; noParts = x .noParts }
+
   pub tells-source : fieldCount l ≡ 3 → Tells due.SourceLine K l c ls form.SourceLine
-  tells-source e s p (inl x) =
-      record {
-        items = sourceLine;
-        line = source-line e p;
-        left =
-            record {
-              source = plain;
-              others = x .sources;
-              more = x .more;
-              lines = ap (λ (k : List (List Item)). sourceLine ∷ k) (x .lines);
-              made = x .made;
-              noParts = x .noParts;
-            };
-      }
-  tells-source e s p (inr x) =
-      record {
-        items = sourceLine;
-        line = source-line e p;
-        left =
-            record {
-              source = labelled;
-              others = x .sources;
-              more = x .more;
-              lines = ap (λ (k : List (List Item)). sourceLine ∷ k) (x .lines);
-              made = x .made;
-              noParts = x .noParts;
-            };
-      }
+  tells-source e s p x = record { items = sourceLine; line = source-line e p; left = sourced-left x }
 
   pub tells-more-source : fieldCount l ≡ 3 → Tells due.AfterSourceBlank K l c ls form.SourceLine
-  tells-more-source e s p (inl x) =
+  tells-more-source e s p x =
+      let y = sourced-left x in
       record {
         items = sourceLine;
         line = source-line e p;
-        left =
-            record {
-              sources = plain ∷ x .sources;
-              more = x .more;
-              lines = ap (λ (k : List (List Item)). sourceLine ∷ k) (x .lines);
-              made = x .made;
-              noParts = x .noParts;
-            };
-      }
-  tells-more-source e s p (inr x) =
-      record {
-        items = sourceLine;
-        line = source-line e p;
-        left =
-            record {
-              sources = labelled ∷ x .sources;
-              more = x .more;
-              lines = ap (λ (k : List (List Item)). sourceLine ∷ k) (x .lines);
-              made = x .made;
-              noParts = x .noParts;
-            };
+        left = record { sources = y .source ∷ y .others; more = y .more; lines = y .lines; made = y .made; noParts = y .noParts };
       }
 
   pub tells-label : fieldCount l ≡ 4 → Tells due.AfterSource K l c ls form.LabelLine
@@ -326,12 +236,7 @@ module _ (K : Book) (l : List ℕ) (c : Content) (ls : List (List Item)) where
               more = x .told;
               lines = ap (λ (k : List (List Item)). blank ∷ k) (x .lines);
               made =
-                  record {
-                    sequential = x .made .sequential;
-                    count = x .made .count;
-                    subframes = x .made .subframes;
-                    list = x .made .list ∙ append-assoc (K .parameters) (K .opened ∷ []) (parametersOf (x .told));
-                  };
+                  regrown (x .made .list ∙ append-assoc (K .parameters) (K .opened ∷ []) (parametersOf (x .told))) (x .made);
               noParts = x .noParts;
             };
       }
