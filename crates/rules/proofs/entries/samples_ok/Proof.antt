@@ -29,10 +29,10 @@ record Passed (b : List ℕ) (i first count j : ℕ) : Type 0 where
   done : all j (λ j. lawfulSample b (firstSampleIn b i + j)) ≡ true
 
 abbrev Inv-loop : tie.InvT-loop
-Inv-loop t i bases first count j₀ j = Passed t i first count j
+Inv-loop t i before first count j₀ j = Passed t i first count j
 
 abbrev μ-loop : tie.MeasureT-loop
-μ-loop t i bases first count j₀ j = count - j
+μ-loop t i before first count j₀ j = count - j
 
 parameter-at-requires : tie.Need-parameter-at-requires Inv-loop μ-loop
 parameter-at-requires c κs = search needs
