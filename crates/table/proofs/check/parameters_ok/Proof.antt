@@ -22,10 +22,10 @@ record Passed (b : List ℕ) (parameters i : ℕ) : Type 0 where
   done : all i (lawfulParameter b) ≡ true
 
 abbrev Inv-loop : tie.InvT-loop
-Inv-loop t bases parameters i₀ i = Passed t parameters i
+Inv-loop t before parameters i₀ i = Passed t parameters i
 
 abbrev μ-loop : tie.MeasureT-loop
-μ-loop t bases parameters i₀ i = parameters - i
+μ-loop t before parameters i₀ i = parameters - i
 
 counts-of-requires : tie.Need-counts-of-requires Inv-loop μ-loop
 counts-of-requires c κs = search needs
