@@ -23,10 +23,10 @@ record Passed (b f : List ℕ) (subframes i : ℕ) : Type 0 where
   done : all i (subframeFits (view b) f) ≡ true
 
 abbrev Inv-loop : tie.InvT-loop
-Inv-loop t words bases subframes i₀ i = Passed t words subframes i
+Inv-loop t words before subframes i₀ i = Passed t words subframes i
 
 abbrev μ-loop : tie.MeasureT-loop
-μ-loop t words bases subframes i₀ i = subframes - i
+μ-loop t words before subframes i₀ i = subframes - i
 
 counts-of-requires : tie.Need-counts-of-requires Inv-loop μ-loop
 counts-of-requires c κs = search needs
