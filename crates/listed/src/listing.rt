@@ -6,7 +6,6 @@ use frame::fit::Fit;
 use frame::read::Reading;
 use frame::read::sample_in;
 use lay::put::put_text;
-use rules::bases::Bases;
 use rules::texts::name_in;
 use stored::items::parameter_at;
 ghost use mathlib.Core.Path.{_≡_};
@@ -58,19 +57,19 @@ fn put_sample(
     words: &[u16],
     i: usize,
     j: usize,
-    bases: Bases,
+    before: &[usize; 32],
     out: &mut [u8],
     o: usize,
 ) -> usize
     requires { ⌜ Ruled (now t) ⌝ }
-    requires { ⌜ BasesOf (now t) bases ⌝ }
+    requires { ⌜ BasesOf (now t) (now before) ⌝ }
     requires { ⌜ i < parametersIn (now t) ⌝ }
     requires { ⌜ j < sampleCountIn (now t) i ⌝ }
     requires { ⌜ length (now words) ≡ frameWords (view (now t)) ⌝ }
     requires { ⌜ o + 150 ≤ length (now out) ⌝ }
     ensures { λ r. ⌜ (r ≡ o + length (sampleRow (view (now (t .entry))) (now (words .entry)) i j)) × (now (out .exit) ≡ put (now (out .entry)) o (sampleRow (view (now (t .entry))) (now (words .entry)) i j)) ⌝ }
 {
-    match sample_in(t, words, i, j, bases) {
+    match sample_in(t, words, i, j, before) {
         Reading::Sample { raw, width, value } => put_row(
             out,
             o,
@@ -85,9 +84,15 @@ fn put_sample(
 }
 
 // All rows of parameter i, counted from 0; it has at most 64 samples.
-pub fn put_parameter(t: &[u8], words: &[u16], i: usize, bases: Bases, out: &mut [u8]) -> usize
+pub fn put_parameter(
+    t: &[u8],
+    words: &[u16],
+    i: usize,
+    before: &[usize; 32],
+    out: &mut [u8],
+) -> usize
     requires { ⌜ Ruled (now t) ⌝ }
-    requires { ⌜ BasesOf (now t) bases ⌝ }
+    requires { ⌜ BasesOf (now t) (now before) ⌝ }
     requires { ⌜ i < parametersIn (now t) ⌝ }
     requires { ⌜ length (now words) ≡ frameWords (view (now t)) ⌝ }
     requires { ⌜ 9600 ≤ length (now out) ⌝ }
@@ -99,7 +104,7 @@ pub fn put_parameter(t: &[u8], words: &[u16], i: usize, bases: Bases, out: &mut 
     let mut at = 0;
     let mut j = 0;
     while j < count {
-        at = put_sample(t, words, i, j, bases, out, at);
+        at = put_sample(t, words, i, j, before, out, at);
         j += 1;
     }
     at

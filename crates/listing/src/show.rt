@@ -8,7 +8,6 @@ use frame::fit::fit_of;
 use listed::listing::fit_number;
 use listed::listing::put_heading;
 use listed::listing::put_parameter;
-use rules::bases::Bases;
 use rules::bases::bases_of;
 use stored::items::counts_of;
 use table::check::Checked;
@@ -20,16 +19,16 @@ ghost use Rattle.model.specs.View.{view};
 ghost use Rattle.rules.specs.Ruled.{Ruled, BasesOf};
 
 // The rows of each parameter.
-fn rows(t: &[u8], words: &[u16], bases: Bases)
+fn rows(t: &[u8], words: &[u16], before: &[usize; 32])
     requires { ⌜ Ruled (now t) ⌝ }
-    requires { ⌜ BasesOf (now t) bases ⌝ }
+    requires { ⌜ BasesOf (now t) (now before) ⌝ }
     requires { ⌜ length (now words) ≡ frameWords (view (now t)) ⌝ }
 {
     let mut out = [0u8; 9600];
     let counts = counts_of(t);
     let mut i = 0;
     while i < counts.parameters {
-        let n = put_parameter(t, words, i, bases, &mut out);
+        let n = put_parameter(t, words, i, before, &mut out);
         text(&out[..n]);
         i += 1;
     }
@@ -46,12 +45,12 @@ fn fitted(t: &[u8], words: &[u16]) {
     if !is_table(t) {
         return refused(check_number(Checked::NotTable), 0);
     }
-    let bases = bases_of(t);
-    let fit = fit_of(t, words, bases);
+    let before = bases_of(t);
+    let fit = fit_of(t, words, &before);
     match fit {
         Fit::Fits => {
             heading();
-            rows(t, words, bases);
+            rows(t, words, &before);
         }
         Fit::WrongCount => refused(fit_number(fit), 0),
         Fit::TooHigh => refused(fit_number(fit), 0),

@@ -3,7 +3,6 @@ use frame::fit::Fit;
 use frame::fit::fit_of;
 use frame::read::Reading;
 use frame::read::sample_in;
-use rules::bases::Bases;
 use rules::bases::bases_of;
 use stored::items::counts_of;
 use stored::items::parameter_at;
@@ -17,14 +16,14 @@ ghost use Rattle.model.specs.View.{view};
 ghost use Rattle.rules.specs.Ruled.{Ruled, BasesOf};
 
 // Sample j of parameter i, both counted from 0.
-fn value_in(t: &[u8], words: &[u16], i: usize, j: usize, bases: Bases) -> i64
+fn value_in(t: &[u8], words: &[u16], i: usize, j: usize, before: &[usize; 32]) -> i64
     requires { ⌜ Ruled (now t) ⌝ }
-    requires { ⌜ BasesOf (now t) bases ⌝ }
+    requires { ⌜ BasesOf (now t) (now before) ⌝ }
     requires { ⌜ i < parametersIn (now t) ⌝ }
     requires { ⌜ j < sampleCountIn (now t) i ⌝ }
     requires { ⌜ length (now words) ≡ frameWords (view (now t)) ⌝ }
 {
-    match sample_in(t, words, i, j, bases) {
+    match sample_in(t, words, i, j, before) {
         Reading::Sample {
             raw: _,
             width: _,
@@ -39,12 +38,12 @@ fn parameter_values(
     t: &[u8],
     words: &[u16],
     i: usize,
-    bases: Bases,
+    before: &[usize; 32],
     values: &mut [i64],
     at: usize,
 ) -> usize
     requires { ⌜ Ruled (now t) ⌝ }
-    requires { ⌜ BasesOf (now t) bases ⌝ }
+    requires { ⌜ BasesOf (now t) (now before) ⌝ }
     requires { ⌜ i < parametersIn (now t) ⌝ }
     requires { ⌜ length (now words) ≡ frameWords (view (now t)) ⌝ }
 {
@@ -56,7 +55,7 @@ fn parameter_values(
         if values.len() <= to {
             return to;
         }
-        values[to] = value_in(t, words, i, j, bases);
+        values[to] = value_in(t, words, i, j, before);
         to += 1;
         j += 1;
     }
@@ -64,28 +63,28 @@ fn parameter_values(
 }
 
 // The samples of every parameter.
-fn all_values(t: &[u8], words: &[u16], bases: Bases, values: &mut [i64]) -> usize
+fn all_values(t: &[u8], words: &[u16], before: &[usize; 32], values: &mut [i64]) -> usize
     requires { ⌜ Ruled (now t) ⌝ }
-    requires { ⌜ BasesOf (now t) bases ⌝ }
+    requires { ⌜ BasesOf (now t) (now before) ⌝ }
     requires { ⌜ length (now words) ≡ frameWords (view (now t)) ⌝ }
 {
     let counts = counts_of(t);
     let mut at = 0;
     let mut i = 0;
     while i < counts.parameters {
-        at = parameter_values(t, words, i, bases, values, at);
+        at = parameter_values(t, words, i, before, values, at);
         i += 1;
     }
     at
 }
 
 // A frame, with its words judged; none of its samples where it is refused.
-fn frame_values(t: &[u8], words: &[u16], bases: Bases, values: &mut [i64]) -> usize
+fn frame_values(t: &[u8], words: &[u16], before: &[usize; 32], values: &mut [i64]) -> usize
     requires { ⌜ Ruled (now t) ⌝ }
-    requires { ⌜ BasesOf (now t) bases ⌝ }
+    requires { ⌜ BasesOf (now t) (now before) ⌝ }
 {
-    match fit_of(t, words, bases) {
-        Fit::Fits => all_values(t, words, bases, values),
+    match fit_of(t, words, before) {
+        Fit::Fits => all_values(t, words, before, values),
         Fit::WrongCount => 0,
         Fit::TooHigh => 0,
     }
@@ -102,11 +101,11 @@ pub extern "C" fn speed_read_all(
     if !is_table(table) {
         return 0;
     }
-    let bases = bases_of(table);
+    let before = bases_of(table);
     let mut count = 0;
     let mut n = 0;
     while n < times {
-        count = frame_values(table, words, bases, values);
+        count = frame_values(table, words, &before, values);
         n += 1;
     }
     count

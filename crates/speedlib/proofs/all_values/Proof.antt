@@ -8,10 +8,10 @@ use Rattle.speedlib.proofs.all_values.Statement.{statement}
 use Rattle.speedlib.proofs.all_values.Tie as tie
 
 abbrev Inv-loop : tie.InvT-loop
-Inv-loop t words bases values₀ counts at₀ i₀ values at i = length values ≡ length values₀
+Inv-loop t words before values₀ counts at₀ i₀ values at i = length values ≡ length values₀
 
 abbrev μ-loop : tie.MeasureT-loop
-μ-loop t words bases values₀ counts at₀ i₀ values at i = counts .parameters - i
+μ-loop t words before values₀ counts at₀ i₀ values at i = counts .parameters - i
 
 counts-of-requires : tie.Need-counts-of-requires Inv-loop μ-loop
 counts-of-requires c κs = search needs

@@ -10,10 +10,10 @@ use Rattle.speedlib.proofs.parameter_values.Statement.{statement}
 use Rattle.speedlib.proofs.parameter_values.Tie as tie
 
 abbrev Inv-loop : tie.InvT-loop
-Inv-loop t words i bases values₀ at count to₀ j₀ values to j = length values ≡ length values₀
+Inv-loop t words i before values₀ at count to₀ j₀ values to j = length values ≡ length values₀
 
 abbrev μ-loop : tie.MeasureT-loop
-μ-loop t words i bases values₀ at count to₀ j₀ values to j = count - j
+μ-loop t words i before values₀ at count to₀ j₀ values to j = count - j
 
 parameter-at-requires : tie.Need-parameter-at-requires Inv-loop μ-loop
 parameter-at-requires c κs = search needs

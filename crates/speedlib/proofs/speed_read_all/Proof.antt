@@ -9,10 +9,10 @@ use Rattle.speedlib.proofs.speed_read_all.Statement.{statement}
 use Rattle.speedlib.proofs.speed_read_all.Tie as tie
 
 abbrev Inv-loop : tie.InvT-loop
-Inv-loop table words values₀ times bases count₀ n₀ values count n = length values ≡ length values₀
+Inv-loop table words values₀ times before count₀ n₀ values count n = length values ≡ length values₀
 
 abbrev μ-loop : tie.MeasureT-loop
-μ-loop table words values₀ times bases count₀ n₀ values count n = times - n
+μ-loop table words values₀ times before count₀ n₀ values count n = times - n
 
 is-table-requires : tie.Need-is-table-requires Inv-loop μ-loop
 is-table-requires c κs = search needs
@@ -27,7 +27,7 @@ loop-holds : tie.Need-loop-holds Inv-loop μ-loop
 loop-holds c = search needs
 
 frame-values-requires : tie.Need-frame-values-requires Inv-loop μ-loop
-frame-values-requires c κs = (accepted-ruled _ (sym (c .before .before .before .before .before .is-table .ensures) ∙ not-false _ (c .before .before .before .before .if1 .left)), c .before .before .before .bases-of .ensures)
+frame-values-requires c κs = (accepted-ruled _ (sym (c .before .before .before .before .before .before .is-table .ensures) ∙ not-false _ (c .before .before .before .before .before .if1 .left)), c .before .before .before .before .bases-of .ensures)
 
 add-n : tie.Need-add-n Inv-loop μ-loop
 add-n c = search needs

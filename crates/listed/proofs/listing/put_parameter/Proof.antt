@@ -10,10 +10,10 @@ use Rattle.listed.proofs.listing.put_parameter.Statement.{statement}
 use Rattle.listed.proofs.listing.put_parameter.Tie as tie
 
 abbrev Inv-loop : tie.InvT-loop
-Inv-loop t words i bases out₀ count at₀ j₀ out at j = Rows t i words out₀ out at j
+Inv-loop t words i before out₀ count at₀ j₀ out at j = Rows t i words out₀ out at j
 
 abbrev μ-loop : tie.MeasureT-loop
-μ-loop t words i bases out₀ count at₀ j₀ out at j = count - j
+μ-loop t words i before out₀ count at₀ j₀ out at j = count - j
 
 parameter-at-requires : tie.Need-parameter-at-requires Inv-loop μ-loop
 parameter-at-requires c κs = search needs

@@ -23,7 +23,7 @@ bases-of-requires : tie.Need-bases-of-requires
 bases-of-requires c κs = let r = accepted-ruled _ (sym (c .before .is-table .ensures) ∙ not-false _ (c .if1 .left)) in (r .laid .head .sized, r .subframes)
 
 fit-of-requires : tie.Need-fit-of-requires
-fit-of-requires c κs = (accepted-ruled _ (sym (c .before .before .is-table .ensures) ∙ not-false _ (c .before .if1 .left)), c .bases-of .ensures)
+fit-of-requires c κs = (accepted-ruled _ (sym (c .before .before .before .is-table .ensures) ∙ not-false _ (c .before .before .if1 .left)), c .before .bases-of .ensures)
 
 enum-told : tie.Need-enum-told
 enum-told c = search needs
@@ -33,8 +33,8 @@ heading-requires c κs = search needs
 
 rows-requires : tie.Need-rows-requires
 rows-requires c κs =
-    let h = sym (c .before .before .before .fit-of .ensures) ∙ c .before .enum-told .given .1 in
-    (accepted-ruled _ (sym (c .before .before .before .before .before .before .is-table .ensures) ∙ not-false _ (c .before .before .before .before .before .if1 .left)), (c .before .before .before .before .bases-of .ensures, fits-long _ _ h))
+    let h = sym (c .before .before .before .before .fit-of .ensures) ∙ c .before .before .enum-told .given .1 in
+    (accepted-ruled _ (sym (c .before .before .before .before .before .before .before .before .is-table .ensures) ∙ not-false _ (c .before .before .before .before .before .before .before .if1 .left)), (c .before .before .before .before .before .before .bases-of .ensures, fits-long _ _ h))
 
 enum-told-2 : tie.Need-enum-told-2
 enum-told-2 c = search needs

@@ -8,10 +8,10 @@ use Rattle.listing.proofs.show.rows.Statement.{statement}
 use Rattle.listing.proofs.show.rows.Tie as tie
 
 abbrev Inv-loop : tie.InvT-loop
-Inv-loop t words bases out₀ counts i₀ out i = 9600 ≡ length out
+Inv-loop t words before out₀ counts i₀ out i = 9600 ≡ length out
 
 abbrev μ-loop : tie.MeasureT-loop
-μ-loop t words bases out₀ counts i₀ out i = counts .parameters - i
+μ-loop t words before out₀ counts i₀ out i = counts .parameters - i
 
 counts-of-requires : tie.Need-counts-of-requires Inv-loop μ-loop
 counts-of-requires c κs = search needs
