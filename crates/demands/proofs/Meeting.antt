@@ -13,13 +13,12 @@ use Rattle.sample.specs.Component.{Place, Named}
 use Rattle.sample.specs.Joining.{join, width}
 use Rattle.sample.specs.Source.{bitIn}
 use Rattle.model.specs.Accepts.{accepts}
-use Rattle.model.specs.Content.{Content, Parameter, parameter}
+use Rattle.model.specs.Content.{Content}
 use Rattle.model.specs.Frame.{meets}
 use Rattle.model.specs.Samples.{widthOf}
-use Rattle.model.specs.Stored.{parametersIn, sampleCountIn}
 use Rattle.model.specs.View.{view}
 use Rattle.model.specs.Write.{write}
-use Rattle.model.proofs.Views.{parameters-view, parameter-view, samples-at}
+use Rattle.model.proofs.Views.{parameters-view, samples-are}
 use Rattle.gather.specs.Ruling.{Ruling, Accepted, Refused, judgeOf}
 use Rattle.grammar.proofs.Accepted.{accepted-says}
 use Rattle.grammar.proofs.Accepts.{says-accepted}
@@ -61,10 +60,6 @@ accepts-of t e = go (accepts t) e
 check-of : (t : List ℕ) → accepts t ≡ true → checkOf t ≡ checked.Table
 unfolding checkOf
 check-of t e = rw e
-
--- a parameter's samples in the view are as many as the table stores
-samples-are : (t : List ℕ) (i : ℕ) → i < parametersIn t → length (parameter (view t) i .samples) ≡ sampleCountIn t i
-samples-are t i l = ap (λ (q : Parameter). length (q .samples)) (parameter-view t i l) ∙ samples-at t i
 
 lists-of : (t : List ℕ) (p s : ℕ) → Listed (view t) p s → Lists t p s
 lists-of t p s l =

@@ -13,25 +13,8 @@ fn is_record_line(form: Form) -> bool
     ensures { λ r. ⌜ r ≡ isRecordLine form ⌝ }
 {
     match form {
-        Form::Stray => false,
-        Form::Superframe => false,
-        Form::HeaderWord => false,
-        Form::HeaderLine => false,
-        Form::RecordWord => false,
         Form::RecordLine => true,
-        Form::NoneWord => false,
-        Form::ParameterWord => false,
-        Form::NameLine => false,
-        Form::OpeningComponent => false,
-        Form::ComponentLine => false,
-        Form::TimeLine => false,
-        Form::SamplesEnd => false,
-        Form::SignedLine => false,
-        Form::RangeLine => false,
-        Form::SourceLine => false,
-        Form::LabelLine => false,
-        Form::SourceEnd => false,
-        Form::ParameterEnd => false,
+        _ => false,
     }
 }
 
@@ -60,25 +43,8 @@ pub fn opened_by(form: Form) -> usize
     ensures { λ r. ⌜ r ≡ openedBy form ⌝ }
 {
     match form {
-        Form::Stray => 0,
-        Form::Superframe => 0,
-        Form::HeaderWord => 0,
-        Form::HeaderLine => 0,
-        Form::RecordWord => 0,
-        Form::RecordLine => 0,
-        Form::NoneWord => 0,
         Form::ParameterWord => 1,
-        Form::NameLine => 0,
-        Form::OpeningComponent => 0,
-        Form::ComponentLine => 0,
-        Form::TimeLine => 0,
-        Form::SamplesEnd => 0,
-        Form::SignedLine => 0,
-        Form::RangeLine => 0,
-        Form::SourceLine => 0,
-        Form::LabelLine => 0,
-        Form::SourceEnd => 0,
-        Form::ParameterEnd => 0,
+        _ => 0,
     }
 }
 

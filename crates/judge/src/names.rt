@@ -90,25 +90,8 @@ pub fn names_judged(form: Form, sheet: &[u8], line: &[u8], texts: &[usize], p: u
     ensures { λ r. ⌜ r ≡ namesIn form (textsIn (now (sheet .entry)) 0 p (now (texts .entry))) (textsIn (now (sheet .entry)) 1026 p (now (texts .entry))) (textsIn (now (sheet .entry)) 2052 p (now (texts .entry))) (now (line .entry)) ⌝ }
 {
     match form {
-        Form::Stray => Judged::Passes,
-        Form::Superframe => Judged::Passes,
-        Form::HeaderWord => Judged::Passes,
-        Form::HeaderLine => Judged::Passes,
-        Form::RecordWord => Judged::Passes,
-        Form::RecordLine => Judged::Passes,
-        Form::NoneWord => Judged::Passes,
-        Form::ParameterWord => Judged::Passes,
         Form::NameLine => repeated_unless(unlike_names(sheet, line, texts, p)),
-        Form::OpeningComponent => Judged::Passes,
-        Form::ComponentLine => Judged::Passes,
-        Form::TimeLine => Judged::Passes,
-        Form::SamplesEnd => Judged::Passes,
-        Form::SignedLine => Judged::Passes,
-        Form::RangeLine => Judged::Passes,
-        Form::SourceLine => Judged::Passes,
-        Form::LabelLine => Judged::Passes,
-        Form::SourceEnd => Judged::Passes,
-        Form::ParameterEnd => Judged::Passes,
+        _ => Judged::Passes,
     }
 }
 
@@ -154,28 +137,12 @@ pub fn places_after(form: Form, line: &[u8], begin: usize, here: Places) -> Plac
     ensures { λ r. ⌜ r ≡ placesAfter form (now (line .entry)) begin here ⌝ }
 {
     match form {
-        Form::Stray => here,
-        Form::Superframe => here,
-        Form::HeaderWord => here,
-        Form::HeaderLine => here,
-        Form::RecordWord => here,
-        Form::RecordLine => here,
-        Form::NoneWord => here,
-        Form::ParameterWord => here,
         Form::NameLine => Places {
             name: place_in(line, begin, 0),
             mnemonic: place_in(line, begin, 1),
             identification: place_in(line, begin, 2),
         },
-        Form::OpeningComponent => here,
-        Form::ComponentLine => here,
-        Form::TimeLine => here,
-        Form::SamplesEnd => here,
-        Form::SignedLine => here,
-        Form::RangeLine => here,
-        Form::SourceLine => here,
-        Form::LabelLine => here,
-        Form::SourceEnd => here,
         Form::ParameterEnd => no_places(),
+        _ => here,
     }
 }

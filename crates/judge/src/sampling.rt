@@ -142,25 +142,9 @@ pub fn sample_judged(form: Form, line: &[u8], g: Sampling, own: usize) -> Judged
     ensures { λ r. ⌜ r ≡ sampleIn form (now (line .entry)) g own ⌝ }
 {
     match form {
-        Form::Stray => Judged::Passes,
-        Form::Superframe => Judged::Passes,
-        Form::HeaderWord => Judged::Passes,
-        Form::HeaderLine => Judged::Passes,
-        Form::RecordWord => Judged::Passes,
-        Form::RecordLine => Judged::Passes,
-        Form::NoneWord => Judged::Passes,
-        Form::ParameterWord => Judged::Passes,
-        Form::NameLine => Judged::Passes,
-        Form::OpeningComponent => joined_judged(g, part_in(line)),
-        Form::ComponentLine => joined_judged(g, part_in(line)),
+        Form::OpeningComponent | Form::ComponentLine => joined_judged(g, part_in(line)),
         Form::TimeLine => width_judged(g, own),
-        Form::SamplesEnd => Judged::Passes,
-        Form::SignedLine => Judged::Passes,
-        Form::RangeLine => Judged::Passes,
-        Form::SourceLine => Judged::Passes,
-        Form::LabelLine => Judged::Passes,
-        Form::SourceEnd => Judged::Passes,
-        Form::ParameterEnd => Judged::Passes,
+        _ => Judged::Passes,
     }
 }
 
@@ -170,24 +154,9 @@ pub fn sampling_after(form: Form, line: &[u8], g: Sampling, parts: usize, own: u
     ensures { λ r. ⌜ After form (now (line .entry)) g parts own r ⌝ }
 {
     match form {
-        Form::Stray => g,
-        Form::Superframe => g,
-        Form::HeaderWord => g,
-        Form::HeaderLine => g,
-        Form::RecordWord => g,
-        Form::RecordLine => g,
-        Form::NoneWord => g,
-        Form::ParameterWord => g,
-        Form::NameLine => no_sample(),
-        Form::OpeningComponent => with_part(g, part_in(line), parts),
-        Form::ComponentLine => with_part(g, part_in(line), parts),
+        Form::NameLine | Form::ParameterEnd => no_sample(),
+        Form::OpeningComponent | Form::ComponentLine => with_part(g, part_in(line), parts),
         Form::TimeLine => timed(g, own),
-        Form::SamplesEnd => g,
-        Form::SignedLine => g,
-        Form::RangeLine => g,
-        Form::SourceLine => g,
-        Form::LabelLine => g,
-        Form::SourceEnd => g,
-        Form::ParameterEnd => no_sample(),
+        _ => g,
     }
 }

@@ -170,24 +170,14 @@ pub fn counted(form: Form, line: &[u8], x: Tally) -> Tally
     ensures { λ r. ⌜ r ≡ countedOf form (now (line .entry)) x ⌝ }
 {
     match form {
-        Form::Stray => x,
-        Form::Superframe => x,
-        Form::HeaderWord => x,
         Form::HeaderLine => declared(x, line),
-        Form::RecordWord => x,
         Form::RecordLine => paired(x),
-        Form::NoneWord => x,
-        Form::ParameterWord => x,
         Form::NameLine => named(x, line),
-        Form::OpeningComponent => parted(x),
-        Form::ComponentLine => parted(x),
+        Form::OpeningComponent | Form::ComponentLine => parted(x),
         Form::TimeLine => timed(x),
-        Form::SamplesEnd => x,
         Form::SignedLine => signed(x, line),
         Form::RangeLine => ranged(x, line),
-        Form::SourceLine => x,
-        Form::LabelLine => x,
-        Form::SourceEnd => x,
         Form::ParameterEnd => closed(x),
+        _ => x,
     }
 }

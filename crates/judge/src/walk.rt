@@ -39,23 +39,8 @@ fn may_end(due: Due) -> bool
     ensures { λ r. ⌜ r ≡ mayEnd due ⌝ }
 {
     match due {
-        Due::HeaderWord => false,
-        Due::HeaderLine => false,
-        Due::RecordWord => false,
-        Due::RecordLine => false,
-        Due::Opening => false,
-        Due::NameLine => false,
-        Due::FirstComponent => false,
-        Due::NextComponent => false,
-        Due::AfterSample => false,
-        Due::SignedLine => false,
-        Due::RangeLine => false,
-        Due::SourceLine => false,
-        Due::AfterSource => false,
-        Due::SourceBlank => false,
-        Due::AfterSourceBlank => false,
-        Due::NextParameter => true,
-        Due::Nothing => true,
+        Due::NextParameter | Due::Nothing => true,
+        _ => false,
     }
 }
 

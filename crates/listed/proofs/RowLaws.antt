@@ -22,7 +22,7 @@ use Rattle.model.specs.Content.{Parameter, Sample, parameter}
 use Rattle.model.specs.Samples.{widthOf}
 use Rattle.model.specs.Stored.{parametersIn, sampleCountIn, firstSampleIn, nameIn}
 use Rattle.model.specs.View.{view, parameterAt, sampleAt}
-use Rattle.model.proofs.Views.{parameter-view, samples-at}
+use Rattle.model.proofs.Views.{parameter-view, samples-at, samples-are}
 use Rattle.rules.specs.Ruled.{Ruled, subframesOf}
 use Rattle.frame.proofs.Answered.{raw-below}
 use Rattle.frame.proofs.Listed.{listed-at}
@@ -75,7 +75,7 @@ module _ (b : List ℕ) (h : Ruled b) (i : ℕ) (l : i < parametersIn b) where
   name-short = h .parameters .each i l .name .short
 
   pub count-is : length (parameter (view b) i .samples) ≡ sampleCountIn b i
-  count-is = ap (λ (p : Parameter). length (p .samples)) (parameter-view b i l) ∙ samples-at b i
+  count-is = samples-are b i l
 
   pub count-short : sampleCountIn b i ≤ 64
   count-short = let k = h .parameters .each i l .few in omega (arith, k, samples-at b i)

@@ -1,42 +1,23 @@
 -- What is known where an accepted sheet ends. Assumes nothing.
 use mathlib.Core.Path.{_≡_, sym, subst}
 use mathlib.Core.List.{List}
+use mathlib.Core.Logic.{⊎-elim}
 use Prim.Native.Nat.{ℕ, _+_}
 use native.Mathlib.Omega.{arith}
 use Rattle.lines.specs.Lines.{Lines, none, unended, line}
 use Rattle.lineforms.specs.Forms.{dueAfter}
 use Rattle.lineforms.specs.declared.due.Due.{Due}
-use Rattle.lineforms.specs.declared.due.Due.the-variants as due
 use Rattle.model.specs.Content.{Content}
 use Rattle.gather.specs.Book.{Book, grow}
-use Rattle.gather.specs.Ruling.{Accepted, formAt, opens, atEnd, run}
+use Rattle.gather.specs.Ruling.{Accepted, formAt, opens, run}
 use Rattle.gather.proofs.Sound.{Between, Sound}
 use Rattle.gather.proofs.Steps.{sound-step}
 use Rattle.judge.specs.Walk.{endBook}
-use Rattle.maker.proofs.Walks.{accepted-on, end-on}
-
-between-end : (d : Due) (K : Book) (os : List ℕ) (k : ℕ) (c : Content) → Sound d K → atEnd d K os k ≡ Accepted c → Between K
-between-end due.HeaderWord K os k c h e = let o : _≡_ {A = ℕ} 0 1 = cc in absurd (omega arith)
-between-end due.HeaderLine K os k c h e = let o : _≡_ {A = ℕ} 0 1 = cc in absurd (omega arith)
-between-end due.RecordWord K os k c h e = let o : _≡_ {A = ℕ} 0 1 = cc in absurd (omega arith)
-between-end due.RecordLine K os k c h e = let o : _≡_ {A = ℕ} 0 1 = cc in absurd (omega arith)
-between-end due.Opening K os k c h e = let o : _≡_ {A = ℕ} 0 1 = cc in absurd (omega arith)
-between-end due.NameLine K os k c h e = let o : _≡_ {A = ℕ} 0 1 = cc in absurd (omega arith)
-between-end due.FirstComponent K os k c h e = let o : _≡_ {A = ℕ} 0 1 = cc in absurd (omega arith)
-between-end due.NextComponent K os k c h e = let o : _≡_ {A = ℕ} 0 1 = cc in absurd (omega arith)
-between-end due.AfterSample K os k c h e = let o : _≡_ {A = ℕ} 0 1 = cc in absurd (omega arith)
-between-end due.SignedLine K os k c h e = let o : _≡_ {A = ℕ} 0 1 = cc in absurd (omega arith)
-between-end due.RangeLine K os k c h e = let o : _≡_ {A = ℕ} 0 1 = cc in absurd (omega arith)
-between-end due.SourceLine K os k c h e = let o : _≡_ {A = ℕ} 0 1 = cc in absurd (omega arith)
-between-end due.AfterSource K os k c h e = let o : _≡_ {A = ℕ} 0 1 = cc in absurd (omega arith)
-between-end due.SourceBlank K os k c h e = let o : _≡_ {A = ℕ} 0 1 = cc in absurd (omega arith)
-between-end due.AfterSourceBlank K os k c h e = let o : _≡_ {A = ℕ} 0 1 = cc in absurd (omega arith)
-between-end due.NextParameter K os k c h e = h
-between-end due.Nothing K os k c h e = h
+use Rattle.maker.proofs.Walks.{accepted-on, end-on, end-due}
 
 pub end-between : (d : Due) (K : Book) (os : List ℕ) (k : ℕ) (ls : Lines) (c : Content) → Sound d K → run d K os k ls ≡ Accepted c → Between (endBook d K ls)
 unfolding endBook run
-end-between d K os k none c h e = between-end d K os (k + 1) c h e
+end-between d K os k none c h e = ⊎-elim (λ p. p) (λ p. p) (end-due (λ x. Sound x K) d K os (k + 1) c h e)
 end-between d K os k unended c h e = let o : _≡_ {A = ℕ} 0 1 = cc in absurd (omega arith)
 end-between d K os k (line l ls) c h e =
     let o = accepted-on d K os k l ls c e in

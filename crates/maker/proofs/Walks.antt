@@ -2,6 +2,7 @@
 use mathlib.Core.Path.{_≡_, refl, sym, ap, subst, _∙_}
 use mathlib.Core.Bool.{Bool, true, false}
 use mathlib.Core.List.{List}
+use mathlib.Core.Logic.{_⊎_, inl, inr, ⊎-elim}
 use Prim.Native.Nat.{ℕ, _+_, _-_, _<_}
 use native.Mathlib.Omega.{arith}
 use lib.Dec.{ltb}
@@ -96,29 +97,30 @@ rises-end n d K os k (line l ls) c h e =
 
 -- ---- the end of an accepted run
 
-closed-end : (d : Due) (K : Book) (os : List ℕ) (k : ℕ) (c : Content) → Clear d K → atEnd d K os k ≡ Accepted c → K .opened ≡ noParameter
-closed-end due.HeaderWord K os k c h e = let o : _≡_ {A = ℕ} 0 1 = cc in absurd (omega arith)
-closed-end due.HeaderLine K os k c h e = let o : _≡_ {A = ℕ} 0 1 = cc in absurd (omega arith)
-closed-end due.RecordWord K os k c h e = let o : _≡_ {A = ℕ} 0 1 = cc in absurd (omega arith)
-closed-end due.RecordLine K os k c h e = let o : _≡_ {A = ℕ} 0 1 = cc in absurd (omega arith)
-closed-end due.Opening K os k c h e = let o : _≡_ {A = ℕ} 0 1 = cc in absurd (omega arith)
-closed-end due.NameLine K os k c h e = let o : _≡_ {A = ℕ} 0 1 = cc in absurd (omega arith)
-closed-end due.FirstComponent K os k c h e = let o : _≡_ {A = ℕ} 0 1 = cc in absurd (omega arith)
-closed-end due.NextComponent K os k c h e = let o : _≡_ {A = ℕ} 0 1 = cc in absurd (omega arith)
-closed-end due.AfterSample K os k c h e = let o : _≡_ {A = ℕ} 0 1 = cc in absurd (omega arith)
-closed-end due.SignedLine K os k c h e = let o : _≡_ {A = ℕ} 0 1 = cc in absurd (omega arith)
-closed-end due.RangeLine K os k c h e = let o : _≡_ {A = ℕ} 0 1 = cc in absurd (omega arith)
-closed-end due.SourceLine K os k c h e = let o : _≡_ {A = ℕ} 0 1 = cc in absurd (omega arith)
-closed-end due.AfterSource K os k c h e = let o : _≡_ {A = ℕ} 0 1 = cc in absurd (omega arith)
-closed-end due.SourceBlank K os k c h e = let o : _≡_ {A = ℕ} 0 1 = cc in absurd (omega arith)
-closed-end due.AfterSourceBlank K os k c h e = let o : _≡_ {A = ℕ} 0 1 = cc in absurd (omega arith)
-closed-end due.NextParameter K os k c h e = h
-closed-end due.Nothing K os k c h e = h
+-- it ends where a parameter may begin, or where nothing is due
+pub end-due : (P : Due → Type 0) (d : Due) (K : Book) (os : List ℕ) (k : ℕ) (c : Content) → P d → atEnd d K os k ≡ Accepted c → P due.NextParameter ⊎ P due.Nothing
+end-due P due.HeaderWord K os k c h e = let o : _≡_ {A = ℕ} 0 1 = cc in absurd (omega arith)
+end-due P due.HeaderLine K os k c h e = let o : _≡_ {A = ℕ} 0 1 = cc in absurd (omega arith)
+end-due P due.RecordWord K os k c h e = let o : _≡_ {A = ℕ} 0 1 = cc in absurd (omega arith)
+end-due P due.RecordLine K os k c h e = let o : _≡_ {A = ℕ} 0 1 = cc in absurd (omega arith)
+end-due P due.Opening K os k c h e = let o : _≡_ {A = ℕ} 0 1 = cc in absurd (omega arith)
+end-due P due.NameLine K os k c h e = let o : _≡_ {A = ℕ} 0 1 = cc in absurd (omega arith)
+end-due P due.FirstComponent K os k c h e = let o : _≡_ {A = ℕ} 0 1 = cc in absurd (omega arith)
+end-due P due.NextComponent K os k c h e = let o : _≡_ {A = ℕ} 0 1 = cc in absurd (omega arith)
+end-due P due.AfterSample K os k c h e = let o : _≡_ {A = ℕ} 0 1 = cc in absurd (omega arith)
+end-due P due.SignedLine K os k c h e = let o : _≡_ {A = ℕ} 0 1 = cc in absurd (omega arith)
+end-due P due.RangeLine K os k c h e = let o : _≡_ {A = ℕ} 0 1 = cc in absurd (omega arith)
+end-due P due.SourceLine K os k c h e = let o : _≡_ {A = ℕ} 0 1 = cc in absurd (omega arith)
+end-due P due.AfterSource K os k c h e = let o : _≡_ {A = ℕ} 0 1 = cc in absurd (omega arith)
+end-due P due.SourceBlank K os k c h e = let o : _≡_ {A = ℕ} 0 1 = cc in absurd (omega arith)
+end-due P due.AfterSourceBlank K os k c h e = let o : _≡_ {A = ℕ} 0 1 = cc in absurd (omega arith)
+end-due P due.NextParameter K os k c h e = inl h
+end-due P due.Nothing K os k c h e = inr h
 
 -- no parameter is open there
 pub end-clear : (d : Due) (K : Book) (os : List ℕ) (k : ℕ) (ls : Lines) (c : Content) → Clear d K → run d K os k ls ≡ Accepted c → endBook d K ls .opened ≡ noParameter
 unfolding endBook run
-end-clear d K os k none c h e = closed-end d K os (k + 1) c h e
+end-clear d K os k none c h e = ⊎-elim (λ p. p) (λ p. p) (end-due (λ x. Clear x K) d K os (k + 1) c h e)
 end-clear d K os k unended c h e = let o : _≡_ {A = ℕ} 0 1 = cc in absurd (omega arith)
 end-clear d K os k (line l ls) c h e =
     let o = accepted-on d K os k l ls c e in

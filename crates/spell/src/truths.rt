@@ -4,30 +4,32 @@ use lay::same_text;
 use text::refusal::Judged;
 use text::refusal::Refusal;
 ghost use mathlib.Core.Path.{_≡_};
+ghost use mathlib.Core.Bool.{_||_};
+ghost use Rattle.lay.specs.Bytes.{same};
 ghost use Rattle.spell.specs.Truths.{saysTrue, saysFalse, truthOf, truthOrEmptyJudged};
+
+fn one_of(f: &[u8], x: &[u8], y: &[u8], z: &[u8]) -> bool
+    ensures { λ r. ⌜ r ≡ (same (now (f .entry)) (now (x .entry)) || (same (now (f .entry)) (now (y .entry)) || same (now (f .entry)) (now (z .entry)))) ⌝ }
+{
+    if same_text(f, x) {
+        return true;
+    }
+    if same_text(f, y) {
+        return true;
+    }
+    same_text(f, z)
+}
 
 pub fn says_true(f: &[u8]) -> bool
     ensures { λ r. ⌜ r ≡ saysTrue (now (f .entry)) ⌝ }
 {
-    if same_text(f, b"True") {
-        return true;
-    }
-    if same_text(f, b"true") {
-        return true;
-    }
-    same_text(f, b"TRUE")
+    one_of(f, b"True", b"true", b"TRUE")
 }
 
 fn says_false(f: &[u8]) -> bool
     ensures { λ r. ⌜ r ≡ saysFalse (now (f .entry)) ⌝ }
 {
-    if same_text(f, b"False") {
-        return true;
-    }
-    if same_text(f, b"false") {
-        return true;
-    }
-    same_text(f, b"FALSE")
+    one_of(f, b"False", b"false", b"FALSE")
 }
 
 // 8, 6.

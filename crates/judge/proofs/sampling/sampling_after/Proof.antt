@@ -1,189 +1,60 @@
-use mathlib.Core.Path.{refl}
+use mathlib.Core.Path.{_≡_, refl}
+use mathlib.Core.List.{[], _∷_}
+use denote.Ref.{now}
+use Rattle.lineforms.specs.declared.due.Form.the-variants.{NameLine, OpeningComponent, ComponentLine, TimeLine, ParameterEnd}
+use Rattle.lineforms.specs.Said.{partIn}
+use Rattle.lineforms.proofs.Arms.{these-forms, other-forms, form-holds, form-held}
+use Rattle.judge.specs.Sampling.{Opened, Widened, Roomy, Apt, After}
 use borrow.Author.Needs.{needs}
 use Rattle.judge.proofs.sampling.sampling_after.Statement.{statement}
 use Rattle.judge.proofs.sampling.sampling_after.Tie as tie
 
-enum-told : tie.Need-enum-told
-enum-told c = search needs
-
-enum-told-2 : tie.Need-enum-told-2
-enum-told-2 c = search needs
-
-enum-told-3 : tie.Need-enum-told-3
-enum-told-3 c = search needs
-
-enum-told-4 : tie.Need-enum-told-4
-enum-told-4 c = search needs
-
-enum-told-5 : tie.Need-enum-told-5
-enum-told-5 c = search needs
-
-enum-told-6 : tie.Need-enum-told-6
-enum-told-6 c = search needs
-
-enum-told-7 : tie.Need-enum-told-7
-enum-told-7 c = search needs
-
-enum-told-8 : tie.Need-enum-told-8
-enum-told-8 c = search needs
-
-enum-told-9 : tie.Need-enum-told-9
-enum-told-9 c = search needs
-
 no-sample-requires : tie.Need-no-sample-requires
 no-sample-requires c κs = search needs
-
-enum-told-10 : tie.Need-enum-told-10
-enum-told-10 c = search needs
 
 part-in-requires : tie.Need-part-in-requires
 part-in-requires c κs = search needs
 
 with-part-requires : tie.Need-with-part-requires
-with-part-requires c κs = let h = rw (c .before .enum-told10 .given .1) at (c .before .before .before .before .pre) in (h .count, h .width, c .part-in .ensures .1)
+with-part-requires c κs =
+    let s = c .before .before .before in
+    let h = form-held (λ f. Apt f (s .args .g)) (Roomy (s .args .g)) (these-forms (OpeningComponent ∷ ComponentLine ∷ [])) refl (s .args .form) (c .before .match .keys2) (s .pre) in
+    (h .count, h .width, c .part-in .ensures .1)
 
-enum-told-11 : tie.Need-enum-told-11
-enum-told-11 c = search needs
-
-part-in-requires-2 : tie.Need-part-in-requires-2
-part-in-requires-2 c κs = search needs
-
-with-part-requires-2 : tie.Need-with-part-requires-2
-with-part-requires-2 c κs = let h = rw (c .before .enum-told11 .given .1) at (c .before .before .before .before .pre) in (h .count, h .width, c .part-in2 .ensures .1)
-
-enum-told-12 : tie.Need-enum-told-12
-enum-told-12 c = search needs
+enum-told : tie.Need-enum-told
+enum-told c = search needs
 
 timed-requires : tie.Need-timed-requires
 timed-requires c κs = search needs
 
-enum-told-13 : tie.Need-enum-told-13
-enum-told-13 c = search needs
-
-enum-told-14 : tie.Need-enum-told-14
-enum-told-14 c = search needs
-
-enum-told-15 : tie.Need-enum-told-15
-enum-told-15 c = search needs
-
-enum-told-16 : tie.Need-enum-told-16
-enum-told-16 c = search needs
-
-enum-told-17 : tie.Need-enum-told-17
-enum-told-17 c = search needs
-
-enum-told-18 : tie.Need-enum-told-18
-enum-told-18 c = search needs
-
-enum-told-19 : tie.Need-enum-told-19
-enum-told-19 c = search needs
-
-no-sample-requires-2 : tie.Need-no-sample-requires-2
-no-sample-requires-2 c κs = search needs
-
 returns : tie.Need-returns
-returns c = rw (c .enum-told .given .1) refl
+returns c =
+    let a = c .before .before .before .args in
+    form-holds (λ f. After f (now (a .line)) (a .g) (a .parts) (a .own) (c .no-sample .result)) (Opened (c .no-sample .result)) (these-forms (NameLine ∷ ParameterEnd ∷ [])) refl (a .form) (c .before .match .keys1) (c .no-sample .ensures)
 
 returns-2 : tie.Need-returns-2
-returns-2 c = rw (c .enum-told2 .given .1) refl
+returns-2 c =
+    let a = c .before .before .before .before .args in
+    form-holds (λ f. After f (now (a .line)) (a .g) (a .parts) (a .own) (c .with-part .result)) (Widened (a .g) (partIn (now (a .line))) (a .parts) (c .with-part .result)) (these-forms (OpeningComponent ∷ ComponentLine ∷ [])) refl (a .form) (c .before .before .match .keys2) (rw (← (c .before .part-in .ensures .0)) (c .with-part .ensures))
 
 returns-3 : tie.Need-returns-3
-returns-3 c = rw (c .enum-told3 .given .1) refl
+returns-3 c = rw (c .before .enum-told .given .1) (c .timed .ensures)
 
 returns-4 : tie.Need-returns-4
-returns-4 c = rw (c .enum-told4 .given .1) refl
-
-returns-5 : tie.Need-returns-5
-returns-5 c = rw (c .enum-told5 .given .1) refl
-
-returns-6 : tie.Need-returns-6
-returns-6 c = rw (c .enum-told6 .given .1) refl
-
-returns-7 : tie.Need-returns-7
-returns-7 c = rw (c .enum-told7 .given .1) refl
-
-returns-8 : tie.Need-returns-8
-returns-8 c = rw (c .enum-told8 .given .1) refl
-
-returns-9 : tie.Need-returns-9
-returns-9 c = rw (c .before .enum-told9 .given .1) (c .no-sample .ensures)
-
-returns-10 : tie.Need-returns-10
-returns-10 c = rw (c .before .before .enum-told10 .given .1, ← (c .before .part-in .ensures .0)) (c .with-part .ensures)
-
-returns-11 : tie.Need-returns-11
-returns-11 c = rw (c .before .before .enum-told11 .given .1, ← (c .before .part-in2 .ensures .0)) (c .with-part2 .ensures)
-
-returns-12 : tie.Need-returns-12
-returns-12 c = rw (c .before .enum-told12 .given .1) (c .timed .ensures)
-
-returns-13 : tie.Need-returns-13
-returns-13 c = rw (c .enum-told13 .given .1) refl
-
-returns-14 : tie.Need-returns-14
-returns-14 c = rw (c .enum-told14 .given .1) refl
-
-returns-15 : tie.Need-returns-15
-returns-15 c = rw (c .enum-told15 .given .1) refl
-
-returns-16 : tie.Need-returns-16
-returns-16 c = rw (c .enum-told16 .given .1) refl
-
-returns-17 : tie.Need-returns-17
-returns-17 c = rw (c .enum-told17 .given .1) refl
-
-returns-18 : tie.Need-returns-18
-returns-18 c = rw (c .enum-told18 .given .1) refl
-
-returns-19 : tie.Need-returns-19
-returns-19 c = rw (c .before .enum-told19 .given .1) (c .no-sample2 .ensures)
+returns-4 c =
+    let a = c .before .before .args in
+    form-holds (λ f. After f (now (a .line)) (a .g) (a .parts) (a .own) (a .g)) (a .g ≡ a .g) (other-forms (NameLine ∷ ParameterEnd ∷ OpeningComponent ∷ ComponentLine ∷ TimeLine ∷ [])) refl (a .form) (c .match .keys4) refl
 
 pub sampling-after-spec : {M : Type 1} → statement M
 sampling-after-spec =
     tie.close
     (tie.spec
-    enum-told
-    enum-told-2
-    enum-told-3
-    enum-told-4
-    enum-told-5
-    enum-told-6
-    enum-told-7
-    enum-told-8
-    enum-told-9
     no-sample-requires
-    enum-told-10
     part-in-requires
     with-part-requires
-    enum-told-11
-    part-in-requires-2
-    with-part-requires-2
-    enum-told-12
+    enum-told
     timed-requires
-    enum-told-13
-    enum-told-14
-    enum-told-15
-    enum-told-16
-    enum-told-17
-    enum-told-18
-    enum-told-19
-    no-sample-requires-2
     returns
     returns-2
     returns-3
-    returns-4
-    returns-5
-    returns-6
-    returns-7
-    returns-8
-    returns-9
-    returns-10
-    returns-11
-    returns-12
-    returns-13
-    returns-14
-    returns-15
-    returns-16
-    returns-17
-    returns-18
-    returns-19)
+    returns-4)
