@@ -17,9 +17,9 @@ use Rattle.model.proofs.Views.{parameters-view}
 use Rattle.table.specs.Answers.{numbered, askedNumber, nameAnswered}
 use Rattle.table.specs.declared.naming.Asked.the-variants.{Parameter, NoTable, NoParameter}
 use Rattle.table.proofs.Accepting.{accepted-ruled}
-use Rattle.frame.specs.Reading.{readOf}
-use Rattle.frame.specs.declared.read.Reading.the-variants as reading
-use Rattle.frame.specs.declared.want.Wanted.{Wanted}
+use Rattle.framing.specs.Reading.{readOf}
+use Rattle.framing.specs.declared.read.Reading.the-variants as reading
+use Rattle.framing.specs.declared.want.Wanted.{Wanted}
 use Rattle.listed.specs.Lines.{rowText}
 use Rattle.listed.specs.Listing.{wordsOf}
 use Rattle.listed.proofs.RowLaws.{name-is, name-short}

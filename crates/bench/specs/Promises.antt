@@ -9,12 +9,12 @@ use Rattle.maker.specs.Made.{madeOf, leftOf, madeNumber}
 use Rattle.maker.specs.declared.make.Made.{Made}
 use Rattle.table.specs.Answers.{checkOf, checkNumber, NameOf, askedNumber, askedMnemonic, askedRefusal}
 use Rattle.table.specs.declared.check.Checked.{Checked}
-use Rattle.frame.specs.Reading.{readOf, readNumber}
-use Rattle.frame.specs.Placing.{placeOf, placedOf, placeNumber}
-use Rattle.frame.specs.Comparing.{comparedOf, comparedNumber}
-use Rattle.frame.specs.declared.read.Reading.{Reading}
-use Rattle.frame.specs.declared.place.Placed.{Placed}
-use Rattle.frame.specs.declared.compare.Compared.{Compared}
+use Rattle.framing.specs.Reading.{readOf, readNumber}
+use Rattle.framing.specs.Placing.{placeOf, placedOf, placeNumber}
+use Rattle.framing.specs.Comparing.{comparedOf, comparedNumber}
+use Rattle.framing.specs.declared.read.Reading.{Reading}
+use Rattle.framing.specs.declared.place.Placed.{Placed}
+use Rattle.framing.specs.declared.compare.Compared.{Compared}
 
 -- ---- a sheet
 

@@ -7,9 +7,9 @@ use lib.Dec.{eqb, leb}
 use lib.ListN.{length}
 use Rattle.lay.specs.Bytes.{put}
 use Rattle.table.specs.Answers.{askedNumber, nameAnswered}
-use Rattle.frame.specs.Reading.{readOf}
-use Rattle.frame.specs.declared.read.Reading.{Reading}
-use Rattle.frame.specs.declared.read.Reading.the-variants as reading
+use Rattle.framing.specs.Reading.{readOf}
+use Rattle.framing.specs.declared.read.Reading.{Reading}
+use Rattle.framing.specs.declared.read.Reading.the-variants as reading
 use Rattle.listed.specs.Lines.{rowText}
 use Rattle.listed.specs.Listing.{wordsOf}
 

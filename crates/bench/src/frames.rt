@@ -1,7 +1,7 @@
 // A frame read, filled and compared by a table. Parameters and samples are counted from 1.
-use frame::compare::Compared;
-use frame::place::Placed;
-use frame::read::Reading;
+use framing::compare::Compared;
+use framing::place::Placed;
+use framing::read::Reading;
 ghost use Rattle.bench.specs.Promises.{Reads, ReadNumbered, Places, PlaceNumbered, Compares, CompareNumbered};
 
 pub fn read(t: &[u8], words: &[u16], parameter: u32, sample: u32) -> Reading

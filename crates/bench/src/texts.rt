@@ -2,7 +2,7 @@
 // there is nothing to write or the lent bytes are too few.
 use crate::frames::read;
 use crate::tables::name;
-use frame::read::Reading;
+use framing::read::Reading;
 use listed::listing::put_heading;
 use listed::listing::put_refused;
 use listed::listing::put_words;

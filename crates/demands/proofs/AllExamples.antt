@@ -1,7 +1,7 @@
 -- The worked examples of 01, one table under one theorem: samples, signs, placings and comparisons over the wall's table, and
 -- sheets with their rulings, the seconds among them. Assumes nothing.
-use Rattle.frame.proofs.Examples as frames
-use Rattle.gather.proofs.SheetExamples as sheets
+use Rattle.framing.proofs.Examples as frames
+use Rattle.rulings.proofs.SheetExamples as sheets
 
 pub record All : Type 0 where
   pub framed : frames.AllHold frames.cases

@@ -5,9 +5,9 @@ use Prim.Native.Nat.{ℕ}
 use denote.Ref.{RefT, now}
 use Rattle.maker.specs.declared.make.Made.{Made}
 use Rattle.table.specs.declared.check.Checked.{Checked}
-use Rattle.frame.specs.declared.read.Reading.{Reading}
-use Rattle.frame.specs.declared.place.Placed.{Placed}
-use Rattle.frame.specs.declared.compare.Compared.{Compared}
+use Rattle.framing.specs.declared.read.Reading.{Reading}
+use Rattle.framing.specs.declared.place.Placed.{Placed}
+use Rattle.framing.specs.declared.compare.Compared.{Compared}
 use Rattle.bench.specs.Promises.{Makes, MadeNumbered, Checks, CheckNumbered, Names, NameNumbered, NamesBy, NameByNumbered, Reads, ReadNumbered, Places, PlaceNumbered, Compares, CompareNumbered}
 use Rattle.bench.specs.Texts.{Fills, WordsFill}
 use Rattle.ffi.specs.Promises.{MakesOut, ChecksOut, NamesOut, NamesByOut, ReadsOut, PlacesOut, ComparesOut}

@@ -4,7 +4,7 @@ use mathlib.Core.Bool.{true}
 use mathlib.Core.List.{List}
 use Prim.Native.Nat.{ℕ}
 use lib.ListN.{take}
-use Rattle.sample.specs.Joining.{join, width}
+use Rattle.sample.specs.Joining.{join}
 use Rattle.model.specs.Content.{Content}
 use Rattle.model.specs.Frame.{meets}
 use Rattle.model.specs.View.{view}
@@ -12,21 +12,21 @@ use Rattle.grammar.specs.Says.{Says}
 use Rattle.grammar.proofs.Exactly.{one-saying}
 use Rattle.maker.specs.declared.make.Made.the-variants as made
 use Rattle.table.specs.declared.check.Checked.the-variants.{Table}
-use Rattle.frame.specs.declared.read.Reading.{Reading}
-use Rattle.frame.specs.declared.read.Reading.the-variants.{Sample}
+use Rattle.framing.specs.declared.read.Reading.{Reading}
 use Rattle.demands.specs.Calls.{Calls}
-use Rattle.demands.specs.Demands.{Listed, componentsOf, meaning, Demands}
+use Rattle.demands.specs.Refusing.{componentsOf}
+use Rattle.demands.specs.Demands.{HasSample, answerFor, Fitting, Demands}
 
 -- what a read of sample s of parameter p must answer, by what the sheet says
 abbrev pub readBy : Content → List ℕ → ℕ → ℕ → Reading
-readBy c f p s = Sample (join f (componentsOf c p s)) (width (componentsOf c p s)) (meaning c p s (join f (componentsOf c p s)))
+readBy c f p s = answerFor c p s (join f (componentsOf c p s))
 
 -- by a table made of a sheet that says c
 pub record ReadAsSaid (B : Calls) (s l : List ℕ) (n : ℕ) (c : Content) : Type 0 where
   -- the table passes the check
   pub passes : B .check (take n (B .made s l)) ≡ Table
   -- and every read by it of a frame that fits is the joining, lowest first and signed as said, of what the sheet lists
-  pub reads : (f : List ℕ) (p q : ℕ) → meets c f ≡ true → Listed c p q → B .read (take n (B .made s l)) f p q ≡ readBy c f p q
+  pub reads : (f : List ℕ) (p q : ℕ) → meets c f ≡ true → HasSample c p q → B .read (take n (B .made s l)) f p q ≡ readBy c f p q
 
 -- the sheet says one thing, and all is read as said
 pub record EndToEnd (B : Calls) (s l : List ℕ) (n : ℕ) : Type 0 where
@@ -38,16 +38,16 @@ pub record EndToEnd (B : Calls) (s l : List ℕ) (n : ℕ) : Type 0 where
 module _ (B : Calls) (D : Demands B) where
   pub read-as-said : (s l : List ℕ) (n : ℕ) (c : Content) → Says s c → B .make s l ≡ made.Length n → ReadAsSaid B s l n c
   read-as-said s l n c e h =
-      let v : view (take n (B .made s l)) ≡ c = D .two .says s l n c h e in
+      let v : view (take n (B .made s l)) ≡ c = D .two .sheet .says s l n c h e in
       let k = D .three .passes s l n h in
       record {
         passes = k;
-        reads = λ f p q m a. subst (λ (d : Content). B .read (take n (B .made s l)) f p q ≡ readBy d f p q) v (D .two .joined (take n (B .made s l)) f p q k (ap (λ (d : Content). meets d f) v ∙ m) (subst (λ (d : Content). Listed d p q) (sym v) a));
+        reads = λ f p q m a. subst (λ (d : Content). B .read (take n (B .made s l)) f p q ≡ readBy d f p q) v (D .two .joined (take n (B .made s l)) f p q (record { passes = k; fits = ap (λ (d : Content). meets d f) v ∙ m }) (subst (λ (d : Content). HasSample d p q) (sym v) a));
       }
 
   pub end-to-end : (s l : List ℕ) (n : ℕ) → B .make s l ≡ made.Length n → EndToEnd B s l n
   end-to-end s l n h =
-      let w = D .two .only s l n h in
+      let w = D .two .sheet .only s l n h in
       record {
         content = w .0;
         says = w .1;

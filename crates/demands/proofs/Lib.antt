@@ -1,7 +1,15 @@
+pub mod Numbers
+pub mod Parts
 pub mod Meeting
 pub mod Ours
+pub mod Told
+pub mod Unbroken
+pub mod Only
 pub mod Determined
 pub mod EndToEnd
+pub mod Wall
 pub mod Useless
+pub mod Slips
+pub mod Bad
 pub mod AllExamples
 pub mod NotVacuous

@@ -1,51 +1,50 @@
 -- Whoever keeps the promises of the bench meets the demands. Assumes nothing.
-use Prim.Native.Nat.{ℕ, _-_, _^_, _≤_, _<_}
+use Prim.Native.Nat.{ℕ, _+_, _-_, _^_, _≤_, _<_}
 use native.Mathlib.Omega.{arith}
 use mathlib.Core.Bool.{Bool, true, false, cond}
 use mathlib.Core.Path.{_≡_, refl, sym, ap, _∙_}
 use mathlib.Core.List.{List}
 use mathlib.Core.Logic.{_⊎_, inl, inr}
+use denote.Ref.{RefT, now}
 use borrow.Author.Tests.{le-leb, lt-leb}
 use lib.Dec.{ltb}
 use lib.ListN.{length, take, drop}
+use Rattle.text.specs.declared.refusal.Refusal.{Refusal}
 use Rattle.text.specs.declared.refusal.Refusal.the-variants.{TableTooSmall}
 use Rattle.sample.specs.Component.{Place, Named}
 use Rattle.sample.specs.Joining.{join, width}
 use Rattle.sample.specs.Source.{bitIn}
 use Rattle.model.specs.Accepts.{accepts}
-use Rattle.model.specs.Content.{Content}
+use Rattle.model.specs.Content.{Content, parameter, parameters}
 use Rattle.model.specs.Frame.{meets}
 use Rattle.model.specs.Samples.{widthOf}
 use Rattle.model.specs.View.{view}
 use Rattle.model.specs.Write.{write}
 use Rattle.model.proofs.Views.{parameters-view, samples-are}
 use Rattle.gather.specs.Ruling.{Ruling, Accepted, Refused, judgeOf}
+use Rattle.grammar.specs.Says.{Says}
 use Rattle.grammar.proofs.Accepted.{accepted-says}
 use Rattle.grammar.proofs.Accepts.{says-accepted}
-use Rattle.maker.specs.Made.{madeOf, leftOf, madeNumber}
-use Rattle.maker.specs.declared.make.Made.{Made}
+use Rattle.maker.specs.Made.{madeOf, leftOf}
 use Rattle.maker.specs.declared.make.Made.the-variants as made
-use Rattle.maker.proofs.MadeTables.{made-table, left-alone}
-use Rattle.table.specs.Answers.{checkOf, checkNumber}
-use Rattle.table.specs.declared.check.Checked.{Checked}
+use Rattle.maker.proofs.MadeTables.{TooSmall as SmallTable, made-table, left-alone}
+use Rattle.table.specs.Answers.{checkOf, checkNumber, askedNumber, askedMnemonic}
 use Rattle.table.specs.declared.check.Checked.the-variants as checked
-use Rattle.frame.specs.Wanted.{wantedOf, wantedNumber}
-use Rattle.frame.specs.Reading.{rawOf, widthIs, valueOf, sampleRead, readOf, readNumber}
-use Rattle.frame.specs.Placing.{placeFor, placeOf, placedFor, placedOf, placeNumber}
-use Rattle.frame.specs.Comparing.{comparedNumber}
-use Rattle.frame.specs.declared.want.Wanted.{Wanted}
-use Rattle.frame.specs.declared.want.Wanted.the-variants as wanted
-use Rattle.frame.specs.declared.read.Reading.{Reading}
-use Rattle.frame.specs.declared.read.Reading.the-variants as reading
-use Rattle.frame.specs.declared.place.Placed.{Placed}
-use Rattle.frame.specs.declared.place.Placed.the-variants as placing
-use Rattle.frame.specs.declared.compare.Compared.{Compared}
-use Rattle.frame.specs.declared.compare.Compared.the-variants as compared
-use Rattle.frame.proofs.Agree.{Lists, answers-bits, bits-answers}
-use Rattle.frame.proofs.Answered.{answered, raw-below}
-use Rattle.frame.proofs.PlaceRead.{placed-other as other-kept, placed-read}
+use Rattle.framing.specs.Wanted.{wantedOf}
+use Rattle.framing.specs.Reading.{rawOf, widthIs, valueOf, sampleRead, readOf, readNumber}
+use Rattle.framing.specs.Placing.{placeFor, placeOf, placedFor, placedOf, placeNumber}
+use Rattle.framing.specs.Comparing.{comparedNumber}
+use Rattle.framing.specs.declared.want.Wanted.{Wanted}
+use Rattle.framing.specs.declared.want.Wanted.the-variants as wanted
+use Rattle.framing.specs.declared.place.Placed.the-variants as placing
+use Rattle.framing.proofs.Agree.{Lists, answers-bits, bits-answers}
+use Rattle.framing.proofs.Answered.{answered, raw-below}
+use Rattle.framing.proofs.PlaceRead.{placing as placing-done, placed-other as other-kept, placed-read}
 use Rattle.demands.specs.Calls.{Calls, Kept}
-use Rattle.demands.specs.Demands.{Listed, componentsOf, meaning, One, Two, Three, Demands}
+use Rattle.demands.specs.Refusing.{componentsOf, firstBroken, placeRules, nameRules, mnemonicRules}
+use Rattle.demands.specs.Demands.{HasSample, meaning, answerFor, Fitting, TooSmall, SheetRefused, EmptyPart, NamePart, One, SheetTaken, NameAnswered, ValuePlaced, Two, SameAnswers, SameBits, Three, Demands}
+use Rattle.demands.proofs.Numbers.{check-number, read-number, place-number, compare-number, name-number, mnemonic-number}
+use Rattle.demands.proofs.Parts.{unnamed-part, name-asked, mnemonic-asked, named-part, first-differing}
 
 -- ---- what a check that passes says
 
@@ -57,11 +56,11 @@ accepts-of t e = go (accepts t) e
     go true q = refl
     go false q = let z : _≡_ {A = ℕ} 0 1 = cc in absurd (omega arith)
 
-check-of : (t : List ℕ) → accepts t ≡ true → checkOf t ≡ checked.Table
+pub check-of : (t : List ℕ) → accepts t ≡ true → checkOf t ≡ checked.Table
 unfolding checkOf
 check-of t e = rw e
 
-lists-of : (t : List ℕ) (p s : ℕ) → Listed (view t) p s → Lists t p s
+pub lists-of : (t : List ℕ) (p s : ℕ) → HasSample (view t) p s → Lists t p s
 lists-of t p s l =
     let m = parameters-view t in
     let h = samples-are t (p - 1) (omega (arith, m, l .parameter-least, l .parameter-most)) in
@@ -72,7 +71,7 @@ lists-of t p s l =
       sample-most = omega (arith, h, l .sample-most);
     }
 
-listed-of : (t : List ℕ) (p s : ℕ) → Lists t p s → Listed (view t) p s
+listed-of : (t : List ℕ) (p s : ℕ) → Lists t p s → HasSample (view t) p s
 listed-of t p s l =
     let m = parameters-view t in
     let h = samples-are t (p - 1) (omega (arith, l .parameter-least, l .parameter-most)) in
@@ -82,50 +81,6 @@ listed-of t p s l =
       sample-least = l .sample-least;
       sample-most = omega (arith, h, l .sample-most);
     }
-
--- ---- numbers
-
-wanted-number : (w : Wanted) → (wantedNumber w ≡ 0) ⊎ ((18 ≤ wantedNumber w) × (wantedNumber w ≤ 22))
-unfolding wantedNumber
-wanted-number (wanted.Listed i j) = inl refl
-wanted-number wanted.NoTable = inr (omega arith, omega arith)
-wanted-number wanted.NoParameter = inr (omega arith, omega arith)
-wanted-number wanted.NoSample = inr (omega arith, omega arith)
-wanted-number wanted.OtherCount = inr (omega arith, omega arith)
-wanted-number wanted.HighWord = inr (omega arith, omega arith)
-
-reading-number : (r : Reading) → (readNumber r ≡ 0) ⊎ ((18 ≤ readNumber r) × (readNumber r ≤ 22))
-unfolding readNumber
-reading-number (reading.Sample r w v) = inl refl
-reading-number (reading.Refused w) = wanted-number w
-
-placing-number : (r : Placed) → (placeNumber r ≡ 0) ⊎ ((18 ≤ placeNumber r) × (placeNumber r ≤ 23))
-unfolding placeNumber
-placing-number placing.Done = inl refl
-placing-number (placing.Refused w) = go (wanted-number w)
-  where
-    go : (wantedNumber w ≡ 0) ⊎ ((18 ≤ wantedNumber w) × (wantedNumber w ≤ 22)) → (wantedNumber w ≡ 0) ⊎ ((18 ≤ wantedNumber w) × (wantedNumber w ≤ 23))
-    go (inl e) = inl e
-    go (inr h) = inr (h .0, omega (arith, h .1))
-placing-number placing.TooLarge = inr (omega arith, omega arith)
-
-comparing-number : (r : Compared) → (comparedNumber r ≡ 0) ⊎ ((18 ≤ comparedNumber r) × (comparedNumber r ≤ 24))
-unfolding comparedNumber
-comparing-number compared.Passes = inl refl
-comparing-number compared.NoTable = inr (omega arith, omega arith)
-comparing-number compared.OtherCount = inr (omega arith, omega arith)
-comparing-number compared.HighWord = inr (omega arith, omega arith)
-comparing-number (compared.Differs s) = inr (omega arith, omega arith)
-
-checking-number : (r : Checked) → (checkNumber r ≡ 0) ⊎ (checkNumber r ≡ 18)
-unfolding checkNumber
-checking-number checked.Table = inl refl
-checking-number checked.NotTable = inr refl
-
-making-number : (s l : List ℕ) (m : Made) → m ≡ madeOf (judgeOf s) (length l) → madeNumber m ≤ 17
-unfolding madeNumber
-making-number s l (made.Length n) e = omega arith
-making-number s l (made.Refused q k) e = left-alone s l q k (sym e) .most
 
 -- a placing that is refused leaves the words as they were
 placing-unchanged : (t f : List ℕ) (p s v : ℕ) → (placeNumber (placeOf t f p s v) ≡ 0 → ⊥) → placedOf t f p s v ≡ f
@@ -145,18 +100,6 @@ placing-unchanged t f p s v n = go (wantedOf t f p s) n
     go wanted.HighWord m = refl
 
 module _ (B : Calls) (K : Kept B) where
-  pub one : One B
-  one =
-      record {
-        make-number = λ s l. making-number s l (B .make s l) (K .makes s l .0);
-        check-number = λ t. checking-number (B .check t);
-        read-number = λ t f p s. reading-number (B .read t f p s);
-        place-number = λ t f p s v. placing-number (B .place t f p s v);
-        compare-number = λ t f. comparing-number (B .compare t f);
-        make-unchanged = λ s l q k e. K .makes s l .1 ∙ left-alone s l q k (sym (K .makes s l .0) ∙ e) .same;
-        place-unchanged = λ t f p s v n. K .places t f p s v .1 ∙ placing-unchanged t f p s v (λ e. n (ap placeNumber (K .places t f p s v .0) ∙ e));
-      }
-
   -- ---- sheets
 
   abbrev said : Content → Ruling → Content
@@ -177,13 +120,44 @@ module _ (B : Calls) (K : Kept B) where
       let t = made-table s l n (sym (K .makes s l .0) ∙ h) in
       ap (λ (x : List ℕ). view (take n x)) (K .makes s l .1) ∙ (t .says ∙ ap (said c) (sym (t .accepted) ∙ e))
 
+  module _ (s l : List ℕ) (q : Refusal) (k : ℕ) where
+    why-refused : B .make s l ≡ made.Refused q k → SheetRefused s l q k
+    why-refused e = go (left-alone s l q k (sym (K .makes s l .0) ∙ e) .why)
+      where
+        go : (judgeOf s ≡ Refused q k) ⊎ SmallTable s l q k → SheetRefused s l q k
+        go (inl h) = inl h
+        go (inr t) = inr (record { content = t .content; says = accepted-says s (t .content) (t .accepted); short = t .small; refusal = t .refusal; unlined = t .unlined })
+
+    refused-so : SheetRefused s l q k → B .make s l ≡ made.Refused q k
+    refused-so (inl e) = making s l (Refused q k) e
+    refused-so (inr t) = small-exactly s l (t .content) (says-accepted s (t .content) (t .says)) (t .short) ∙ rw (t .refusal, t .unlined)
+
+  -- ---- 1
+
+  pub one : One B
+  one =
+      record {
+        sheets = λ s l q k. (why-refused s l q k, refused-so s l q k);
+        sheet-unchanged = λ s l q k e. K .makes s l .1 ∙ left-alone s l q k (sym (K .makes s l .0) ∙ e) .same;
+        tables = λ t. ap checkNumber (K .checks t) ∙ check-number t;
+        reads = λ t f p s. ap readNumber (K .reads t f p s) ∙ read-number t f p s;
+        places = λ t f p s v. ap placeNumber (K .places t f p s v .0) ∙ place-number t f p s v;
+        place-unchanged = λ t f p s v n. K .places t f p s v .1 ∙ placing-unchanged t f p s v (λ e. n (sym (place-number t f p s v) ∙ e));
+        compares = λ t f. ap comparedNumber (K .compares t f) ∙ compare-number t f;
+        subframes = λ t f s e. first-differing t f s (sym (K .compares t f) ∙ e);
+        names = λ t p. K .names-numbered t p ∙ name-number t p;
+        unnamed = λ t p n. unnamed-part t (B .name t p) (askedNumber (now t) p) (K .names t p) (λ e. n (sym (name-number (now t) p) ∙ e));
+        mnemonics = λ t m. K .names-by-numbered t m ∙ mnemonic-number t m;
+        unknown = λ t m n. unnamed-part t (B .nameBy t m) (askedMnemonic (now t) m) (K .names-by t m) (λ e. n (sym (mnemonic-number (now t) m) ∙ e));
+      }
+
   -- ---- samples
 
-  module _ (t : List ℕ) (h : B .check t ≡ checked.Table) (p s : ℕ) (l : Listed (view t) p s) where
+  module _ (t : List ℕ) (h : B .check t ≡ checked.Table) (p s : ℕ) (l : HasSample (view t) p s) where
     passed : accepts t ≡ true
     passed = accepts-of t (sym (K .checks t) ∙ h)
 
-    read-joined : (f : List ℕ) → meets (view t) f ≡ true → B .read t f p s ≡ reading.Sample (join f (componentsOf (view t) p s)) (width (componentsOf (view t) p s)) (meaning (view t) p s (join f (componentsOf (view t) p s)))
+    read-joined : (f : List ℕ) → meets (view t) f ≡ true → B .read t f p s ≡ answerFor (view t) p s (join f (componentsOf (view t) p s))
     unfolding sampleRead rawOf widthIs valueOf widthOf componentsOf meaning
     read-joined f m =
         let k = lists-of t p s l in
@@ -194,7 +168,13 @@ module _ (B : Calls) (K : Kept B) where
     below-width f = raw-below (view t) f (p - 1) (s - 1)
 
     module _ (f : List ℕ) (m : meets (view t) f ≡ true) (v : ℕ) (d : v < 2 ^ width (componentsOf (view t) p s)) where
-      read-back : B .read t (B .placed t f p s v) p s ≡ reading.Sample v (width (componentsOf (view t) p s)) (meaning (view t) p s v)
+      value-done : B .place t f p s v ≡ placing.Done
+      unfolding widthIs widthOf componentsOf
+      value-done =
+          let k = lists-of t p s l in
+          K .places t f p s v .0 ∙ placing-done t p s passed (k .parameter-least) (k .parameter-most) (k .sample-least) (k .sample-most) f m v d
+
+      read-back : B .read t (B .placed t f p s v) p s ≡ answerFor (view t) p s v
       unfolding widthIs widthOf componentsOf meaning
       read-back =
           let k = lists-of t p s l in
@@ -209,44 +189,59 @@ module _ (B : Calls) (K : Kept B) where
           ap (λ (x : List ℕ). bitIn x q) (K .places t f p s v .1)
           ∙ other-kept t p s passed (k .parameter-least) (k .parameter-most) (k .sample-least) (k .sample-most) f m v d q o
 
-  pub two : Two B
-  two =
+  -- ---- 2
+
+  sheet : SheetTaken B
+  sheet =
       record {
         taken = λ s l c h. taken-exactly s l c (says-accepted s c h);
         only = λ s l n h. let t = made-table s l n (sym (K .makes s l .0) ∙ h) in (t .content, accepted-says s (t .content) (t .accepted));
-        refused = λ s l q k e. making s l (Refused q k) e;
-        small = λ s l c h. small-exactly s l c (says-accepted s c h);
         says = λ s l n c h w. says-so s l n c h (says-accepted s c w);
         later = λ s l n h. ap (drop n) (K .makes s l .1) ∙ made-table s l n (sym (K .makes s l .0) ∙ h) .later;
-        joined = λ t f p s h m l. read-joined t h p s l f m;
-        placed-back = λ t f p s v h m l d. read-back t h p s l f m v d;
-        placed-other = λ t f p s v h m l d. kept-outside t h p s l f m v d;
       }
 
-  -- ---- tables of whoever made them
+  named : NameAnswered B
+  named =
+      record {
+        name = λ t p e. named-part t (B .name t p) (askedNumber (now t) p) (p - 1) (K .names t p) (name-asked (now t) p e);
+        mnemonic = λ t m e i l q. named-part t (B .nameBy t m) (askedMnemonic (now t) m) i (K .names-by t m) (mnemonic-asked (now t) m e i l q);
+      }
 
-  module _ (t f g : List ℕ) (h : B .check t ≡ checked.Table) (m : meets (view t) f ≡ true) (n : meets (view t) g ≡ true) where
+  pub two : Two B
+  two =
+      record {
+        sheet = sheet;
+        named = named;
+        joined = λ t f p s h l. read-joined t (h .passes) p s l f (h .fits);
+        placed = λ t f p s v h l d. record { done = value-done t (h .passes) p s l f (h .fits) v d; back = read-back t (h .passes) p s l f (h .fits) v d; other = kept-outside t (h .passes) p s l f (h .fits) v d };
+      }
+
+  -- ---- 3
+
+  module _ (t f g : List ℕ) (h : Fitting B t f) (n : Fitting B t g) where
     passing : accepts t ≡ true
-    passing = accepts-of t (sym (K .checks t) ∙ h)
+    passing = accepts-of t (sym (K .checks t) ∙ h .passes)
 
-    same-bits : ((p s : ℕ) → Listed (view t) p s → B .read t f p s ≡ B .read t g p s) → (p s : ℕ) → Listed (view t) p s → (q : Place) → Named (componentsOf (view t) p s) q → bitIn f q ≡ bitIn g q
+    same-bits : SameAnswers B t f g → SameBits t f g
     unfolding componentsOf
-    same-bits a p s l =
-        answers-bits t f g passing m n (record { each = λ p′ s′ k. sym (K .reads t f p′ s′) ∙ (a p′ s′ (listed-of t p′ s′ k) ∙ K .reads t g p′ s′) }) .each p s (lists-of t p s l)
+    same-bits a =
+        record {
+          each = λ p s l. answers-bits t f g passing (h .fits) (n .fits) (record { each = λ p′ s′ k. sym (K .reads t f p′ s′) ∙ (a .each p′ s′ (listed-of t p′ s′ k) ∙ K .reads t g p′ s′) }) .each p s (lists-of t p s l);
+        }
 
-    same-answers : ((p s : ℕ) → Listed (view t) p s → (q : Place) → Named (componentsOf (view t) p s) q → bitIn f q ≡ bitIn g q) → (p s : ℕ) → Listed (view t) p s → B .read t f p s ≡ B .read t g p s
+    same-answers : SameBits t f g → SameAnswers B t f g
     unfolding componentsOf
-    same-answers a p s l =
-        K .reads t f p s
-        ∙ (bits-answers t f g passing m n (record { each = λ p′ s′ k. a p′ s′ (listed-of t p′ s′ k) }) .each p s (lists-of t p s l) ∙ sym (K .reads t g p s))
+    same-answers a =
+        record {
+          each = λ p s l. K .reads t f p s ∙ (bits-answers t f g passing (h .fits) (n .fits) (record { each = λ p′ s′ k. a .each p′ s′ (listed-of t p′ s′ k) }) .each p s (lists-of t p s l) ∙ sym (K .reads t g p s));
+        }
 
   pub three : Three B
   three =
       record {
         passes = λ s l n h. K .checks (take n (B .made s l)) ∙ (ap (λ (x : List ℕ). checkOf (take n x)) (K .makes s l .1) ∙ check-of (take n (leftOf (judgeOf s) l)) (made-table s l n (sym (K .makes s l .0) ∙ h) .passes));
-        answers = λ t f p s h m l. record { raw = join f (componentsOf (view t) p s); wide = width (componentsOf (view t) p s); value = meaning (view t) p s (join f (componentsOf (view t) p s)); is = read-joined t h p s l f m; below = below-width t h p s l f };
-        equal-bits = same-bits;
-        bits-equal = same-answers;
+        answers = λ t f p s h l. record { raw = join f (componentsOf (view t) p s); wide = width (componentsOf (view t) p s); value = meaning (view t) p s (join f (componentsOf (view t) p s)); is = read-joined t (h .passes) p s l f (h .fits); below = below-width t (h .passes) p s l f };
+        exactly = λ t f g h n. (same-bits t f g h n, same-answers t f g h n);
       }
 
   pub demands-met : Demands B

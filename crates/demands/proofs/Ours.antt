@@ -1,15 +1,23 @@
 -- Our calls, as the promises of bench determine them, and that they meet the demands. Assumes nothing.
+use Prim.Native.Nat.{ℕ, _+_}
 use mathlib.Core.Path.{refl}
+use mathlib.Core.List.{List}
+use denote.Ref.{RefT, now}
 use lib.ListN.{length}
 use Rattle.gather.specs.Ruling.{judgeOf}
 use Rattle.maker.specs.Made.{madeOf, leftOf}
-use Rattle.table.specs.Answers.{checkOf}
-use Rattle.frame.specs.Reading.{readOf}
-use Rattle.frame.specs.Placing.{placeOf, placedOf}
-use Rattle.frame.specs.Comparing.{comparedOf}
+use Rattle.table.specs.Answers.{checkOf, askedNumber, askedMnemonic, askedRefusal, nameAnswered, placeAnswered}
+use Rattle.table.specs.declared.naming.Asked.{Asked}
+use Rattle.framing.specs.Reading.{readOf}
+use Rattle.framing.specs.Placing.{placeOf, placedOf}
+use Rattle.framing.specs.Comparing.{comparedOf}
 use Rattle.demands.specs.Calls.{Calls, Kept}
 use Rattle.demands.specs.Demands.{Demands}
 use Rattle.demands.proofs.Meeting.{demands-met}
+
+-- the table's own bytes from where the name stands
+abbrev answeredPart : RefT (List ℕ) → Asked → RefT (List ℕ)
+answeredPart t a = record { ptr = (t .ptr .0, t .ptr .1 + placeAnswered (now t) a); name = t .name; now = nameAnswered (now t) a }
 
 abbrev pub ours : Calls
 ours =
@@ -21,6 +29,10 @@ ours =
       place = placeOf;
       placed = placedOf;
       compare = comparedOf;
+      name = λ t p. answeredPart t (askedNumber (now t) p);
+      nameNumber = λ t p. askedRefusal (askedNumber t p);
+      nameBy = λ t m. answeredPart t (askedMnemonic (now t) m);
+      nameByNumber = λ t m. askedRefusal (askedMnemonic t m);
     }
 
 pub ours-kept : Kept ours
@@ -31,6 +43,10 @@ ours-kept =
       reads = λ t f p s. refl;
       places = λ t f p s v. (refl, refl);
       compares = λ t f. refl;
+      names = λ t p. record { bytes = refl; own = record { block = refl; place = refl } };
+      names-numbered = λ t p. refl;
+      names-by = λ t m. record { bytes = refl; own = record { block = refl; place = refl } };
+      names-by-numbered = λ t m. refl;
     }
 
 pub ours-meets : Demands ours

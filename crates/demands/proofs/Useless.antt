@@ -1,222 +1,178 @@
--- Useless versions of a bench, and the slips of 01: none of them meets the demands. Each is refuted on the wall sheet, with
--- its table's own bytes lent. Assumes nothing.
+-- Useless versions of a bench, and bad ones: none of them meets the demands. In general form where 01 names a thing invented; else
+-- on the wall sheet, with its table's own bytes lent. Assumes nothing.
 use mathlib.Core.Path.{_≡_, refl, sym, ap, subst, _∙_}
-use mathlib.Core.Bool.{true}
+use mathlib.Core.Bool.{Bool, true, false, cond}
 use mathlib.Core.List.{List, [], _∷_}
 use mathlib.Core.Logic.{inl, inr}
-use Prim.Native.Nat.{ℕ, _^_, _<_}
+use Prim.Native.Nat.{ℕ, zero, suc, _-_, _≤_, _<_}
 use native.Mathlib.Omega.{arith}
-use lib.IntN.{ℤ, pos, negsuc}
+use native.Mathlib.Decide.{decLe}
+use lib.IntN.{ℤ, pos}
 use lib.ListN.{length, take}
 use Rattle.bits.specs.Word.{bitAt, field}
-use Rattle.bits.specs.Sign.{signed}
-use Rattle.text.specs.declared.refusal.Refusal.the-variants.{Unended}
-use Rattle.lines.specs.Lines.{linesOf}
+use Rattle.lay.proofs.Tests.{refuse}
+use Rattle.sample.specs.declared.component.Component.{Component}
 use Rattle.sample.specs.Component.{Place, Named}
 use Rattle.sample.specs.Source.{bitIn}
-use Rattle.sample.specs.Joining.{partOf, join, width}
+use Rattle.sample.specs.Joining.{partOf}
 use Rattle.sample.specs.Flat.{sum, before, position}
-use Rattle.lay.specs.Below.{every}
-use Rattle.model.specs.Frame.{frameWords, wordsOk, meets}
-use Rattle.model.specs.Content.{Content}
+use Rattle.model.specs.Accepts.{accepts}
+use Rattle.model.specs.Content.{Content, parameter, sample}
 use Rattle.model.specs.Samples.{wordCounts, piece, pieces}
 use Rattle.model.specs.View.{view}
 use Rattle.model.specs.Wall.{wall}
 use Rattle.model.specs.Write.{write}
-use Rattle.model.proofs.WallCase.{wall-written}
-use Rattle.gather.specs.Ruling.{Refused, run, judgeOf}
+use Rattle.text.specs.declared.refusal.Refusal.{Refusal}
+use Rattle.gather.specs.Ruling.{Refused, judgeOf}
 use Rattle.gather.specs.WallSheet.{wallSheet}
-use Rattle.grammar.proofs.Exactly.{wall-sheet-says}
+use Rattle.grammar.specs.Says.{Says}
 use Rattle.maker.specs.declared.make.Made.{Made}
 use Rattle.maker.specs.declared.make.Made.the-variants as made
+use Rattle.table.specs.Answers.{checkNumber}
 use Rattle.table.specs.declared.check.Checked.the-variants.{Table, NotTable}
-use Rattle.frame.specs.declared.read.Reading.{Reading}
-use Rattle.frame.specs.declared.read.Reading.the-variants.{Sample, Refused as Unread}
-use Rattle.frame.specs.declared.compare.Compared.{Compared}
-use Rattle.frame.specs.declared.compare.Compared.the-variants.{Passes, NoTable, OtherCount, HighWord, Differs}
-use Rattle.frame.proofs.Examples.{examples}
 use Rattle.table.proofs.Accepting.{accepted-ruled}
-use Rattle.demands.specs.Calls.{Calls, Kept}
-use Rattle.demands.specs.Demands.{Listed, componentsOf, meaning, Demands}
-use Rattle.demands.proofs.Meeting.{accepts-of}
-use Rattle.demands.proofs.EndToEnd.{readBy, ReadAsSaid, read-as-said}
+use Rattle.framing.specs.Reading.{readNumber}
+use Rattle.framing.specs.Placing.{placeNumber}
+use Rattle.framing.specs.Comparing.{comparedNumber}
+use Rattle.framing.specs.declared.read.Reading.{Reading}
+use Rattle.framing.specs.declared.read.Reading.the-variants.{Sample, Refused as Unread}
+use Rattle.framing.specs.declared.place.Placed.{Placed}
+use Rattle.framing.specs.declared.place.Placed.the-variants as placing
+use Rattle.framing.specs.declared.compare.Compared.the-variants as compared
+use Rattle.demands.specs.Calls.{Calls}
+use Rattle.demands.specs.Refusing.{Rule, rule, componentsOf, firstBroken, placeRules}
+use Rattle.demands.specs.Demands.{HasSample, Fitting, FirstDiffering, Demands}
+use Rattle.demands.proofs.Told.{one-first}
+use Rattle.demands.proofs.Wall.{words, others, lower, words-meet, others-meet, lower-meets, sync-listed, pitch-listed, raw-in, wallTable, made-wall, whole, says-wall, fitting, there, reads-pitch, pitch-room}
+use Rattle.demands.proofs.Ours.{ours}
 
--- ---- 01's frame, and one with another first word
+-- ---- no bytes are no table: 18 stands first in every call
 
-abbrev pub words : List ℕ
-words = 583 ∷ 5 ∷ 0 ∷ 6 ∷ []
+no-table : accepts [] ≡ false
+no-table = sym (refuse _ (λ h. let r = accepted-ruled [] h in omega (arith, r .laid .head .sized)))
 
-abbrev others : List ℕ
-others = 582 ∷ 5 ∷ 0 ∷ 6 ∷ []
+pub eighteen : (rs : List Rule) → firstBroken (rule 18 (accepts []) ∷ rs) ≡ 18
+unfolding firstBroken
+eighteen rs = rw no-table
 
-pub words-meet : meets wall words ≡ true
-unfolding every sum before frameWords wordsOk meets wordCounts
-words-meet = refl
+-- ---- what a read of the first component alone would know
 
-others-meet : meets wall others ≡ true
-unfolding every sum before frameWords wordsOk meets wordCounts
-others-meet = refl
+abbrev firstPart : List ℕ → List Component → ℕ
+firstPart f [] = 0
+firstPart f (c ∷ cs) = partOf f c
 
-sync-listed : Listed wall 1 1
-sync-listed = record { parameter-least = omega arith; parameter-most = omega arith; sample-least = omega arith; sample-most = omega arith }
+pitch-first : firstPart words (componentsOf wall 2 1) ≡ 5
+unfolding bitAt field partOf sum before position wordCounts piece pieces componentsOf
+pitch-first = refl
 
-pitch-listed : Listed wall 2 1
-pitch-listed = record { parameter-least = omega arith; parameter-most = omega arith; sample-least = omega arith; sample-most = omega arith }
+-- words and lower have the same first components
+first-same : (p s : ℕ) → firstPart words (componentsOf wall p s) ≡ firstPart lower (componentsOf wall p s)
+unfolding bitAt field partOf sum before position wordCounts piece pieces componentsOf
+first-same p s = go (p - 1) (s - 1)
+  where
+    go : (i j : ℕ) → firstPart words (pieces (wall .subframes) (sample (parameter wall i) j)) ≡ firstPart lower (pieces (wall .subframes) (sample (parameter wall i) j))
+    go zero zero = refl
+    go zero (suc j) = refl
+    go (suc zero) zero = refl
+    go (suc zero) (suc j) = refl
+    go (suc (suc i)) j = refl
 
--- read the minus sign aloud: Pitch is minus eleven
-pub pitch-read : readBy wall words 2 1 ≡ Sample 53 6 (negsuc 10)
-unfolding bitAt field signed partOf join width sum before position wordCounts piece pieces componentsOf meaning
-pitch-read = refl
+-- and differ at a bit that Pitch's second component names
+abbrev second : Place
+second = record { word = 3; bit = 1 }
 
-sync-read : readBy wall words 1 1 ≡ Sample 583 12 (pos 583)
-unfolding bitAt field signed partOf join width sum before position wordCounts piece pieces componentsOf meaning
-sync-read = refl
-
-other-read : readBy wall others 1 1 ≡ Sample 582 12 (pos 582)
-unfolding bitAt field signed partOf join width sum before position wordCounts piece pieces componentsOf meaning
-other-read = refl
-
-pitch-wide : width (componentsOf wall 2 1) ≡ 6
-unfolding width before position wordCounts piece pieces componentsOf
-pitch-wide = refl
-
--- a frame whose word 2 has a bit that Pitch does not name, and that bit
-abbrev fuller : List ℕ
-fuller = 583 ∷ 21 ∷ 0 ∷ 6 ∷ []
-
-fuller-meets : meets wall fuller ≡ true
-unfolding every sum before frameWords wordsOk meets wordCounts
-fuller-meets = refl
-
-abbrev fifth : Place
-fifth = record { word = 1; bit = 4 }
-
-fifth-unnamed : Named (componentsOf wall 2 1) fifth → ⊥
+second-named : Named (componentsOf wall 2 1) second
 unfolding Named sum before position wordCounts piece pieces componentsOf
-fifth-unnamed (inl h) = omega (arith, h .2)
-fifth-unnamed (inr (inl h)) = omega (arith, h .0)
-fifth-unnamed (inr (inr h)) = h
+second-named = inr (inl (refl, omega arith, omega arith))
 
-fifth-set : bitIn fuller fifth ≡ 1
+second-differs : bitIn words second ≡ bitIn lower second → ⊥
 unfolding bitAt
-fifth-set = refl
+second-differs e = omega (arith, e)
 
-fifth-cleared : bitIn (583 ∷ 15 ∷ 0 ∷ 6 ∷ []) fifth ≡ 0
+-- words and others differ at a bit that Sync names
+abbrev lowest : Place
+lowest = record { word = 0; bit = 0 }
+
+lowest-named : Named (componentsOf wall 1 1) lowest
+unfolding Named sum before position wordCounts piece pieces componentsOf
+lowest-named = inl (refl, omega arith, omega arith)
+
+lowest-differs : bitIn words lowest ≡ bitIn others lowest → ⊥
 unfolding bitAt
-fifth-cleared = refl
-
--- the empty file is 4 at 1
-empty-judged : judgeOf [] ≡ Refused Unended 1
-unfolding linesOf run judgeOf
-empty-judged = refl
-
-abbrev raw-in : Reading → ℕ
-raw-in (Sample r w v) = r
-raw-in (Unread q) = 0
-
-abbrev value-in : Reading → ℤ
-value-in (Sample r w v) = v
-value-in (Unread q) = pos 0
-
-abbrev length-in : Made → ℕ
-length-in (made.Length n) = n
-length-in (made.Refused q k) = 0
-
-abbrev line-in : Made → ℕ
-line-in (made.Length n) = 0
-line-in (made.Refused q k) = k
-
--- the wall's table, as that bench makes it
-abbrev pub wallTable : Calls → List ℕ
-wallTable B = take (length (write 1 wall)) (B .made wallSheet (write 1 wall))
+lowest-differs e = omega (arith, e)
 
 module _ (B : Calls) (D : Demands B) where
-  made-wall : B .make wallSheet (write 1 wall) ≡ made.Length (length (write 1 wall))
-  made-wall = D .two .taken wallSheet (write 1 wall) wall wall-sheet-says (omega arith)
-
-  whole : ReadAsSaid B wallSheet (write 1 wall) (length (write 1 wall)) wall
-  whole = read-as-said B D wallSheet (write 1 wall) (length (write 1 wall)) wall wall-sheet-says made-wall
-
-  reads-pitch : B .read (wallTable B) words 2 1 ≡ Sample 53 6 (negsuc 10)
-  reads-pitch = whole .reads words 2 1 words-meet pitch-listed ∙ pitch-read
-
-  -- ---- useless versions
+  -- ---- 01's useless versions
 
   -- refusing all sheets
   pub some-sheet-taken : ((s l : List ℕ) (n : ℕ) → B .make s l ≡ made.Length n → ⊥) → ⊥
-  some-sheet-taken u = u wallSheet (write 1 wall) (length (write 1 wall)) made-wall
+  some-sheet-taken u = u wallSheet (write 1 wall) (length (write 1 wall)) (made-wall B D)
 
   -- refusing all tables
   pub some-table-passes : ((t : List ℕ) → B .check t ≡ NotTable) → ⊥
-  some-table-passes u = let e = sym (u (wallTable B)) ∙ whole .passes in let z : _≡_ {A = ℕ} 0 1 = cc in omega arith
+  some-table-passes u = let e = sym (u (wallTable B)) ∙ whole B D .passes in let z : _≡_ {A = ℕ} 0 1 = cc in omega arith
 
-  -- the same sample for every frame
+  -- the same sample for every frame: by "exactly when"
   pub frames-told-apart : ((t f g : List ℕ) (p s : ℕ) → B .read t f p s ≡ B .read t g p s) → ⊥
   frames-told-apart u =
-      let a = whole .reads words 1 1 words-meet sync-listed ∙ sync-read in
-      let b = whole .reads others 1 1 others-meet sync-listed ∙ other-read in
-      omega (arith, ap raw-in (sym a ∙ (u (wallTable B) words others 1 1 ∙ b)))
-
-  says-wall : view (wallTable B) ≡ wall
-  says-wall = D .two .says wallSheet (write 1 wall) (length (write 1 wall)) wall made-wall wall-sheet-says
-
-  pitch-room : 63 < 2 ^ width (componentsOf (view (wallTable B)) 2 1)
-  pitch-room = let w = ap (λ (c : Content). width (componentsOf c 2 1)) says-wall ∙ pitch-wide in rw w (omega arith)
-
-  pitch-there : Listed (view (wallTable B)) 2 1
-  pitch-there = subst (λ (c : Content). Listed c 2 1) (sym says-wall) pitch-listed
+      let x = D .three .exactly (wallTable B) words others (fitting B D words words-meet) (fitting B D others others-meet) .0 (record { each = λ p s l. u (wallTable B) words others p s }) in
+      lowest-differs (x .each 1 1 (there B D 1 1 sync-listed) lowest (subst (λ (c : Content). Named (componentsOf c 1 1) lowest) (sym (says-wall B D)) lowest-named))
 
   -- a placing that writes nothing
   pub something-placed : ((t f : List ℕ) (p s v : ℕ) → B .placed t f p s v ≡ f) → ⊥
   something-placed u =
-      let b = D .two .placed-back (wallTable B) words 2 1 63 (whole .passes) (ap (λ (c : Content). meets c words) says-wall ∙ words-meet) pitch-there pitch-room in
-      omega (arith, ap raw-in (sym reads-pitch ∙ (sym (ap (λ (f : List ℕ). B .read (wallTable B) f 2 1) (u (wallTable B) words 2 1 63)) ∙ b)))
+      let b = D .two .placed (wallTable B) words 2 1 63 (fitting B D words words-meet) (there B D 2 1 pitch-listed) (pitch-room B D) .back in
+      omega (arith, ap raw-in (sym (reads-pitch B D) ∙ (sym (ap (λ (f : List ℕ). B .read (wallTable B) f 2 1) (u (wallTable B) words 2 1 63)) ∙ b)))
 
-  -- joining only the first component: 5
-  pub not-first-only : (w : ℕ) (v : ℤ) → B .read (wallTable B) words 2 1 ≡ Sample 5 w v → ⊥
-  not-first-only w v e = omega (arith, ap raw-in (sym reads-pitch ∙ e))
+  -- joining only the first component: the raw value is its part; and, by "exactly when", a read that knows no more
+  pub not-first-only : ((t f : List ℕ) (p s : ℕ) → Fitting B t f → HasSample (view t) p s → raw-in (B .read t f p s) ≡ firstPart f (componentsOf (view t) p s)) → ⊥
+  not-first-only u =
+      let e = u (wallTable B) words 2 1 (fitting B D words words-meet) (there B D 2 1 pitch-listed) in
+      omega (arith, e, ap raw-in (reads-pitch B D), ap (λ (c : Content). firstPart words (componentsOf c 2 1)) (says-wall B D) ∙ pitch-first)
 
-  -- an invented table length, and an invented line
-  pub no-other-length : B .make wallSheet (write 1 wall) ≡ made.Length 135 → ⊥
-  no-other-length e = omega (arith, wall-written .long, ap length-in (sym made-wall ∙ e))
+  pub all-components-known : ((t f g : List ℕ) (p s : ℕ) → firstPart f (componentsOf (view t) p s) ≡ firstPart g (componentsOf (view t) p s) → B .read t f p s ≡ B .read t g p s) → ⊥
+  all-components-known u =
+      let same : (p s : ℕ) → firstPart words (componentsOf (view (wallTable B)) p s) ≡ firstPart lower (componentsOf (view (wallTable B)) p s) = λ p s. subst (λ (c : Content). firstPart words (componentsOf c p s) ≡ firstPart lower (componentsOf c p s)) (sym (says-wall B D)) (first-same p s) in
+      let x = D .three .exactly (wallTable B) words lower (fitting B D words words-meet) (fitting B D lower lower-meets) .0 (record { each = λ p s l. u (wallTable B) words lower p s (same p s) }) in
+      second-differs (x .each 2 1 (there B D 2 1 pitch-listed) second (subst (λ (c : Content). Named (componentsOf c 2 1) second) (sym (says-wall B D)) second-named))
 
-  pub no-other-line : (l : List ℕ) → B .make [] l ≡ made.Refused Unended 2 → ⊥
-  no-other-line l e = omega (arith, ap line-in (sym (D .two .refused [] l Unended 1 empty-judged) ∙ e))
+  -- an invented table length: of whatever sheet, there is no other
+  pub no-other-length : (s l : List ℕ) (n : ℕ) (c : Content) → Says s c → B .make s l ≡ made.Length n → n ≡ length (write 1 c)
+  no-other-length s l n c w e = go (decLe (length (write 1 c)) (length l))
+    where
+      lengths : {a b : ℕ} → made.Length a ≡ made.Length b → a ≡ b
+      lengths q = cc
 
-  -- ---- slips
+      go : Dec (length (write 1 c) ≤ length l) → n ≡ length (write 1 c)
+      go (yes h) = lengths (sym e ∙ D .two .sheet .taken s l c w h)
+      go (no h) =
+          let r = D .one .sheets s l _ _ .1 (inr (record { content = c; says = w; short = omega arith; refusal = refl; unlined = refl })) in
+          let q = sym e ∙ r in
+          let z : _≡_ {A = ℕ} 0 1 = cc in
+          absurd (omega arith)
 
-  -- the first component taken as the top: 23 instead of minus eleven
-  pub not-first-on-top : (w : ℕ) (v : ℤ) → B .read (wallTable B) words 2 1 ≡ Sample 23 w v → ⊥
-  not-first-on-top w v e = omega (arith, ap raw-in (sym reads-pitch ∙ e))
+  -- an invented refusal or line: of whatever sheet that is refused, there is no other
+  pub no-other-line : (s l : List ℕ) (q r : Refusal) (k m : ℕ) → judgeOf s ≡ Refused q k → B .make s l ≡ made.Refused r m → (r ≡ q) × (m ≡ k)
+  no-other-line s l q r k m e h = let x = sym h ∙ D .one .sheets s l q k .1 (inl e) in ((cc), (cc))
 
-  -- the sign taken at the word's top bit, or at bit 16: plus fifty-three
-  pub not-sign-elsewhere : (r w : ℕ) → B .read (wallTable B) words 2 1 ≡ Sample r w (pos 53) → ⊥
-  not-sign-elsewhere r w e = let f = ap value-in (sym reads-pitch ∙ e) in let z : _≡_ {A = ℕ} 0 1 = cc in omega arith
+  -- an invented subframe number: of whatever table and frame, there is no other
+  pub no-other-subframe : (t f : List ℕ) (s k : ℕ) → B .compare t f ≡ compared.Differs s → FirstDiffering (view t) f k → s ≡ k
+  no-other-subframe t f s k e x = one-first (view t) f s k (D .one .subframes t f s e) x
 
-  -- words counted from 0: Sync would be word 2's 5
-  pub not-words-from-zero : (w : ℕ) (v : ℤ) → B .read (wallTable B) words 1 1 ≡ Sample 5 w v → ⊥
-  not-words-from-zero w v e = omega (arith, ap raw-in (sym (whole .reads words 1 1 words-meet sync-listed ∙ sync-read) ∙ e))
+  -- ---- bad ones: every read answered, every placing done, every comparison passed, the words wiped
 
-  -- a placing that clears the rest of the word
-  pub rest-not-cleared : B .placed (wallTable B) fuller 2 1 63 ≡ 583 ∷ 15 ∷ 0 ∷ 6 ∷ [] → ⊥
-  rest-not-cleared e =
-      let o = D .two .placed-other (wallTable B) fuller 2 1 63 (whole .passes) (ap (λ (c : Content). meets c fuller) says-wall ∙ fuller-meets) pitch-there pitch-room fifth (λ n. fifth-unnamed (subst (λ (c : Content). Named (componentsOf c 2 1) fifth) says-wall n)) in
-      omega (arith, fifth-set, fifth-cleared, sym (ap (λ (f : List ℕ). bitIn f fifth) e) ∙ o)
+  pub some-read-refused : ((t f : List ℕ) (p s : ℕ) → readNumber (B .read t f p s) ≡ 0) → ⊥
+  some-read-refused u = let e : readNumber (B .read [] [] 1 1) ≡ 18 = D .one .reads [] [] 1 1 ∙ eighteen _ in omega (arith, u [] [] 1 1)
 
--- ---- and two that the promises refute: a table trusted, whoever made it, and an invented subframe number
+  pub some-placing-refused : ((t f : List ℕ) (p s v : ℕ) → placeNumber (B .place t f p s v) ≡ 0) → ⊥
+  some-placing-refused u = let e : placeNumber (B .place [] [] 1 1 0) ≡ 18 = D .one .places [] [] 1 1 0 ∙ eighteen _ in omega (arith, u [] [] 1 1 0)
 
-abbrev subframe-in : Compared → ℕ
-subframe-in Passes = 0
-subframe-in NoTable = 0
-subframe-in OtherCount = 0
-subframe-in HighWord = 0
-subframe-in (Differs s) = s
+  pub some-comparison-refused : ((t f : List ℕ) → comparedNumber (B .compare t f) ≡ 0) → ⊥
+  some-comparison-refused u = let e : comparedNumber (B .compare [] []) ≡ 18 = D .one .compares [] [] ∙ eighteen _ in omega (arith, u [] [])
 
-module _ (B : Calls) (K : Kept B) where
-  pub not-all-trusted : ((t : List ℕ) → B .check t ≡ Table) → ⊥
-  not-all-trusted u = let h = accepted-ruled [] (accepts-of [] (sym (K .checks []) ∙ u [])) in omega (arith, h .laid .head .sized)
-
-  pub no-other-subframe : B .compare (write 1 wall) others ≡ Differs 2 → ⊥
-  no-other-subframe e =
-      let c = examples .1 .1 .1 .1 .1 .1 .1 .1 .1 .1 .1 .0 in
-      omega (arith, ap subframe-in (sym e ∙ (K .compares (write 1 wall) others ∙ c)))
+  pub words-not-wiped : ((t f : List ℕ) (p s v : ℕ) → (placeNumber (B .place t f p s v) ≡ 0 → ⊥) → B .placed t f p s v ≡ []) → ⊥
+  words-not-wiped u =
+      let e : firstBroken (placeRules [] words 1 1 0) ≡ 18 = eighteen _ in
+      let n : placeNumber (B .place [] words 1 1 0) ≡ 18 = D .one .places [] words 1 1 0 ∙ e in
+      let k = D .one .place-unchanged [] words 1 1 0 (λ z. omega arith) in
+      omega (arith, ap length (sym k ∙ u [] words 1 1 0 (λ z. omega arith)))

@@ -1,12 +1,13 @@
 -- The calls of any bench, ours or another's: what each answers, and what it leaves of the bytes and words it was lent.
 use Prim.Native.Nat.{ℕ}
 use mathlib.Core.List.{List}
+use denote.Ref.{RefT}
 use Rattle.maker.specs.declared.make.Made.{Made}
 use Rattle.table.specs.declared.check.Checked.{Checked}
-use Rattle.frame.specs.declared.read.Reading.{Reading}
-use Rattle.frame.specs.declared.place.Placed.{Placed}
-use Rattle.frame.specs.declared.compare.Compared.{Compared}
-use Rattle.bench.specs.Promises.{Makes, Checks, Reads, Places, Compares}
+use Rattle.framing.specs.declared.read.Reading.{Reading}
+use Rattle.framing.specs.declared.place.Placed.{Placed}
+use Rattle.framing.specs.declared.compare.Compared.{Compared}
+use Rattle.bench.specs.Promises.{Makes, Checks, Reads, Places, Compares, Names, NameNumbered, NamesBy, NameByNumbered}
 
 pub record Calls : Type 0 where
   -- sheet, lent bytes
@@ -20,6 +21,12 @@ pub record Calls : Type 0 where
   pub place : List ℕ → List ℕ → ℕ → ℕ → ℕ → Placed
   pub placed : List ℕ → List ℕ → ℕ → ℕ → ℕ → List ℕ
   pub compare : List ℕ → List ℕ → Compared
+  -- table, parameter: a part of the table, and the number that a second call gives
+  pub name : RefT (List ℕ) → ℕ → RefT (List ℕ)
+  pub nameNumber : List ℕ → ℕ → ℕ
+  -- table, mnemonic
+  pub nameBy : RefT (List ℕ) → List ℕ → RefT (List ℕ)
+  pub nameByNumber : List ℕ → List ℕ → ℕ
 
 -- they keep the promises that the crate bench makes
 pub record Kept (B : Calls) : Type 0 where
@@ -28,3 +35,7 @@ pub record Kept (B : Calls) : Type 0 where
   pub reads : (t f : List ℕ) (p s : ℕ) → Reads t f p s (B .read t f p s)
   pub places : (t f : List ℕ) (p s v : ℕ) → Places t f p s v (B .place t f p s v) (B .placed t f p s v)
   pub compares : (t f : List ℕ) → Compares t f (B .compare t f)
+  pub names : (t : RefT (List ℕ)) (p : ℕ) → Names t p (B .name t p)
+  pub names-numbered : (t : List ℕ) (p : ℕ) → NameNumbered t p (B .nameNumber t p)
+  pub names-by : (t : RefT (List ℕ)) (m : List ℕ) → NamesBy t m (B .nameBy t m)
+  pub names-by-numbered : (t m : List ℕ) → NameByNumbered t m (B .nameByNumber t m)

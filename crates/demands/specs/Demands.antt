@@ -1,84 +1,142 @@
 -- The three demands, of any bench.
-use Prim.Native.Nat.{ℕ, _-_, _^_, _≤_, _<_}
-use mathlib.Core.Bool.{true, cond}
+use Prim.Native.Nat.{ℕ, _+_, _-_, _^_, _≤_, _<_}
+use mathlib.Core.Bool.{true, false, cond}
 use mathlib.Core.Path.{_≡_}
-use mathlib.Core.List.{List}
-use mathlib.Core.Logic.{_⊎_}
+use mathlib.Core.List.{List, []}
+use mathlib.Core.Logic.{_⊎_, _↔_}
+use denote.Ref.{RefT, now}
 use lib.IntN.{ℤ, pos}
 use lib.ListN.{length, take, drop}
-use Rattle.text.specs.declared.refusal.Refusal.{Refusal}
-use Rattle.text.specs.declared.refusal.Refusal.the-variants.{TableTooSmall}
+use Rattle.bits.specs.Sign.{signed}
 use Rattle.sample.specs.Component.{Place, Named}
-use Rattle.sample.specs.declared.component.Component.{Component}
 use Rattle.sample.specs.Joining.{join, width}
 use Rattle.sample.specs.Source.{bitIn}
-use Rattle.model.specs.Content.{Content, parameters, parameter, sample}
+use Rattle.model.specs.Content.{Content, parameters, parameter, subframes}
 use Rattle.model.specs.Frame.{meets}
-use Rattle.model.specs.Samples.{pieces}
+use Rattle.model.specs.Stored.{textPart, textStartIn}
 use Rattle.model.specs.View.{view}
 use Rattle.model.specs.Write.{write}
+use Rattle.rules.specs.Part.{Own}
+use Rattle.text.specs.declared.refusal.Refusal.{Refusal}
+use Rattle.text.specs.declared.refusal.Refusal.the-variants.{TableTooSmall}
 use Rattle.gather.specs.Ruling.{Refused, judgeOf}
 use Rattle.grammar.specs.Says.{Says}
-use Rattle.maker.specs.Made.{madeNumber}
 use Rattle.maker.specs.declared.make.Made.the-variants as made
 use Rattle.table.specs.Answers.{checkNumber}
 use Rattle.table.specs.declared.check.Checked.the-variants.{Table}
-use Rattle.frame.specs.Reading.{readNumber}
-use Rattle.frame.specs.Placing.{placeNumber}
-use Rattle.frame.specs.Comparing.{comparedNumber}
-use Rattle.frame.specs.declared.read.Reading.the-variants.{Sample}
-use Rattle.bits.specs.Sign.{signed}
+use Rattle.framing.specs.Reading.{readNumber}
+use Rattle.framing.specs.Placing.{placeNumber}
+use Rattle.framing.specs.Comparing.{differsIn, comparedNumber}
+use Rattle.framing.specs.declared.read.Reading.{Reading}
+use Rattle.framing.specs.declared.read.Reading.the-variants.{Sample}
+use Rattle.framing.specs.declared.place.Placed.the-variants.{Done}
+use Rattle.framing.specs.declared.compare.Compared.the-variants.{Differs}
 use Rattle.demands.specs.Calls.{Calls}
+use Rattle.demands.specs.Refusing.{componentsOf, firstBroken, checkRules, readRules, placeRules, compareRules, nameRules, mnemonicRules}
 
 -- ---- words that the demands use
 
--- sample s of parameter p is listed, both counted from 1
-pub record Listed (c : Content) (p s : ℕ) : Type 0 where
+-- sample s of parameter p is one that the table lists, both counted from 1
+pub record HasSample (c : Content) (p s : ℕ) : Type 0 where
   pub parameter-least : 1 ≤ p
   pub parameter-most : p ≤ parameters c
   pub sample-least : 1 ≤ s
   pub sample-most : s ≤ length (parameter c (p - 1) .samples)
 
--- its components, lowest first, where they stand in a frame
-unfoldable pub componentsOf : Content → ℕ → ℕ → List Component
-componentsOf c p s = pieces (c .subframes) (sample (parameter c (p - 1)) (s - 1))
-
 -- what a raw value of it means: "the two's complement sign where the sheet says signed"
 unfoldable pub meaning : Content → ℕ → ℕ → ℕ → ℤ
 meaning c p s raw = cond (parameter c (p - 1) .signed) (signed (width (componentsOf c p s)) raw) (pos raw)
+
+-- what a read of it answers for a raw value
+abbrev pub answerFor : Content → ℕ → ℕ → ℕ → Reading
+answerFor c p s raw = Sample raw (width (componentsOf c p s)) (meaning c p s raw)
+
+-- "a table that the check accepts, no matter who made it, and frames that fit it"
+pub record Fitting (B : Calls) (t f : List ℕ) : Type 0 where
+  pub passes : B .check t ≡ Table
+  pub fits : meets (view t) f ≡ true
+
+-- 17, "lent table too small": of a sheet that says something, after all else, at line 0
+pub record TooSmall (s l : List ℕ) (q : Refusal) (k : ℕ) : Type 0 where
+  pub content : Content
+  pub says : Says s content
+  pub short : length l < length (write 1 content)
+  pub refusal : q ≡ TableTooSmall
+  pub unlined : k ≡ 0
+
+-- a sheet's refusal and its line: the first in 01's order, or 17
+abbrev pub SheetRefused : List ℕ → List ℕ → Refusal → ℕ → Type 0
+SheetRefused s l q k = (judgeOf s ≡ Refused q k) ⊎ TooSmall s l q k
+
+-- "24 with the first differing subframe's number"
+pub record FirstDiffering (c : Content) (f : List ℕ) (s : ℕ) : Type 0 where
+  pub least : 1 ≤ s
+  pub most : s ≤ subframes c
+  pub differs : differsIn c f s ≡ true
+  pub lower : (k : ℕ) → 1 ≤ k → k < s → differsIn c f k ≡ false
+
+-- r is these bytes of the table itself, from that place on: "not a copy"
+pub record PartOf (t r : RefT (List ℕ)) (place : ℕ) (bytes : List ℕ) : Type 0 where
+  pub bytes-are : now r ≡ bytes
+  pub own : Own t r place
+
+-- "an empty part for a name"
+abbrev pub EmptyPart : RefT (List ℕ) → RefT (List ℕ) → Type 0
+EmptyPart t r = PartOf t r 0 []
+
+-- the name of parameter i, counted from 0
+abbrev pub NamePart : RefT (List ℕ) → RefT (List ℕ) → ℕ → Type 0
+NamePart t r i = PartOf t r (textPart (now t) + textStartIn (now t) i) (parameter (view (now t)) i .name)
 
 -- ---- 1. "Every sheet, table, frame, parameter number, sample number and value gets an answer. Bad input is refused by
 -- number, a bad sheet also by line .. A refusal changes no byte or word of the caller's."
 
 pub record One (B : Calls) : Type 0 where
-  pub make-number : (s l : List ℕ) → madeNumber (B .make s l) ≤ 17
-  pub check-number : (t : List ℕ) → (checkNumber (B .check t) ≡ 0) ⊎ (checkNumber (B .check t) ≡ 18)
-  pub read-number : (t f : List ℕ) (p s : ℕ) → (readNumber (B .read t f p s) ≡ 0) ⊎ ((18 ≤ readNumber (B .read t f p s)) × (readNumber (B .read t f p s) ≤ 22))
-  pub place-number : (t f : List ℕ) (p s v : ℕ) → (placeNumber (B .place t f p s v) ≡ 0) ⊎ ((18 ≤ placeNumber (B .place t f p s v)) × (placeNumber (B .place t f p s v) ≤ 23))
-  pub compare-number : (t f : List ℕ) → (comparedNumber (B .compare t f) ≡ 0) ⊎ ((18 ≤ comparedNumber (B .compare t f)) × (comparedNumber (B .compare t f) ≤ 24))
-  pub make-unchanged : (s l : List ℕ) (q : Refusal) (k : ℕ) → B .make s l ≡ made.Refused q k → B .made s l ≡ l
-  pub place-unchanged : (t f : List ℕ) (p s v : ℕ) → (placeNumber (B .place t f p s v) ≡ 0 → ⊥) → B .placed t f p s v ≡ f
+  pub sheets : (s l : List ℕ) (q : Refusal) (k : ℕ) → (B .make s l ≡ made.Refused q k) ↔ SheetRefused s l q k
+  pub sheet-unchanged : (s l : List ℕ) (q : Refusal) (k : ℕ) → B .make s l ≡ made.Refused q k → B .made s l ≡ l
+  pub tables : (t : List ℕ) → checkNumber (B .check t) ≡ firstBroken (checkRules t)
+  pub reads : (t f : List ℕ) (p s : ℕ) → readNumber (B .read t f p s) ≡ firstBroken (readRules t f p s)
+  pub places : (t f : List ℕ) (p s v : ℕ) → placeNumber (B .place t f p s v) ≡ firstBroken (placeRules t f p s v)
+  pub place-unchanged : (t f : List ℕ) (p s v : ℕ) → (firstBroken (placeRules t f p s v) ≡ 0 → ⊥) → B .placed t f p s v ≡ f
+  pub compares : (t f : List ℕ) → comparedNumber (B .compare t f) ≡ firstBroken (compareRules t f)
+  pub subframes : (t f : List ℕ) (s : ℕ) → B .compare t f ≡ Differs s → FirstDiffering (view t) f s
+  pub names : (t : List ℕ) (p : ℕ) → B .nameNumber t p ≡ firstBroken (nameRules t p)
+  pub unnamed : (t : RefT (List ℕ)) (p : ℕ) → (firstBroken (nameRules (now t) p) ≡ 0 → ⊥) → EmptyPart t (B .name t p)
+  pub mnemonics : (t m : List ℕ) → B .nameByNumber t m ≡ firstBroken (mnemonicRules t m)
+  pub unknown : (t : RefT (List ℕ)) (m : List ℕ) → (firstBroken (mnemonicRules (now t) m) ≡ 0 → ⊥) → EmptyPart t (B .nameBy t m)
 
 -- ---- 2. "A sheet is accepted exactly under TP 13140E 2.0 as narrowed by the scope paper, and its table says what the sheet
 -- says. A sample read is the joining of its components, lowest first, with the two's complement sign where the sheet says
 -- signed. A sample placed is read back equal, and no bit outside its components changes."
 
-pub record Two (B : Calls) : Type 0 where
+-- a sheet
+pub record SheetTaken (B : Calls) : Type 0 where
   -- accepted exactly where the sheet says something, and the lent bytes are enough for its table
   pub taken : (s l : List ℕ) (c : Content) → Says s c → length (write 1 c) ≤ length l → B .make s l ≡ made.Length (length (write 1 c))
   pub only : (s l : List ℕ) (n : ℕ) → B .make s l ≡ made.Length n → (c : Content) × Says s c
-  pub small : (s l : List ℕ) (c : Content) → Says s c → length l < length (write 1 c) → B .make s l ≡ made.Refused TableTooSmall 0
-  -- else refused as the order of 01's tests says
-  pub refused : (s l : List ℕ) (q : Refusal) (k : ℕ) → judgeOf s ≡ Refused q k → B .make s l ≡ made.Refused q k
   pub says : (s l : List ℕ) (n : ℕ) (c : Content) → B .make s l ≡ made.Length n → Says s c → view (take n (B .made s l)) ≡ c
   pub later : (s l : List ℕ) (n : ℕ) → B .make s l ≡ made.Length n → drop n (B .made s l) ≡ drop n l
-  pub joined : (t f : List ℕ) (p s : ℕ) → B .check t ≡ Table → meets (view t) f ≡ true → Listed (view t) p s → B .read t f p s ≡ Sample (join f (componentsOf (view t) p s)) (width (componentsOf (view t) p s)) (meaning (view t) p s (join f (componentsOf (view t) p s)))
-  pub placed-back : (t f : List ℕ) (p s v : ℕ) → B .check t ≡ Table → meets (view t) f ≡ true → Listed (view t) p s → v < 2 ^ width (componentsOf (view t) p s) → B .read t (B .placed t f p s v) p s ≡ Sample v (width (componentsOf (view t) p s)) (meaning (view t) p s v)
-  pub placed-other : (t f : List ℕ) (p s v : ℕ) → B .check t ≡ Table → meets (view t) f ≡ true → Listed (view t) p s → v < 2 ^ width (componentsOf (view t) p s) → (q : Place) → (Named (componentsOf (view t) p s) q → ⊥) → bitIn (B .placed t f p s v) q ≡ bitIn f q
+
+-- the parameter's name, asked for by its number or its mnemonic
+pub record NameAnswered (B : Calls) : Type 0 where
+  pub name : (t : RefT (List ℕ)) (p : ℕ) → firstBroken (nameRules (now t) p) ≡ 0 → NamePart t (B .name t p) (p - 1)
+  pub mnemonic : (t : RefT (List ℕ)) (m : List ℕ) → firstBroken (mnemonicRules (now t) m) ≡ 0 → (i : ℕ) → i < parameters (view (now t)) → parameter (view (now t)) i .mnemonic ≡ m → NamePart t (B .nameBy t m) i
+
+-- a value placed
+pub record ValuePlaced (B : Calls) (t f : List ℕ) (p s v : ℕ) : Type 0 where
+  pub done : B .place t f p s v ≡ Done
+  pub back : B .read t (B .placed t f p s v) p s ≡ answerFor (view t) p s v
+  pub other : (q : Place) → (Named (componentsOf (view t) p s) q → ⊥) → bitIn (B .placed t f p s v) q ≡ bitIn f q
+
+pub record Two (B : Calls) : Type 0 where
+  pub sheet : SheetTaken B
+  pub named : NameAnswered B
+  pub joined : (t f : List ℕ) (p s : ℕ) → Fitting B t f → HasSample (view t) p s → B .read t f p s ≡ answerFor (view t) p s (join f (componentsOf (view t) p s))
+  pub placed : (t f : List ℕ) (p s v : ℕ) → Fitting B t f → HasSample (view t) p s → v < 2 ^ width (componentsOf (view t) p s) → ValuePlaced B t f p s v
 
 -- ---- 3. "Every table made from an accepted sheet passes the table check. For a table that the check accepts, no matter who
--- made it, and frames that fit it, every listed sample is answered, its raw value below two to the width; two such frames
--- give equal answers for all samples exactly when they agree at every bit that some component names."
+-- made it, and frames that fit it, every listed sample is answered, none refused, its raw value below two to the width; two
+-- such frames give equal answers for all samples exactly when they agree at every bit that some component names."
 
 -- what is answered, and below what
 pub record Answered (B : Calls) (t f : List ℕ) (p s : ℕ) : Type 0 where
@@ -88,11 +146,16 @@ pub record Answered (B : Calls) (t f : List ℕ) (p s : ℕ) : Type 0 where
   pub is : B .read t f p s ≡ Sample raw wide value
   pub below : raw < 2 ^ wide
 
+pub record SameAnswers (B : Calls) (t f g : List ℕ) : Type 0 where
+  pub each : (p s : ℕ) → HasSample (view t) p s → B .read t f p s ≡ B .read t g p s
+
+pub record SameBits (t f g : List ℕ) : Type 0 where
+  pub each : (p s : ℕ) → HasSample (view t) p s → (q : Place) → Named (componentsOf (view t) p s) q → bitIn f q ≡ bitIn g q
+
 pub record Three (B : Calls) : Type 0 where
   pub passes : (s l : List ℕ) (n : ℕ) → B .make s l ≡ made.Length n → B .check (take n (B .made s l)) ≡ Table
-  pub answers : (t f : List ℕ) (p s : ℕ) → B .check t ≡ Table → meets (view t) f ≡ true → Listed (view t) p s → Answered B t f p s
-  pub equal-bits : (t f g : List ℕ) → B .check t ≡ Table → meets (view t) f ≡ true → meets (view t) g ≡ true → ((p s : ℕ) → Listed (view t) p s → B .read t f p s ≡ B .read t g p s) → (p s : ℕ) → Listed (view t) p s → (q : Place) → Named (componentsOf (view t) p s) q → bitIn f q ≡ bitIn g q
-  pub bits-equal : (t f g : List ℕ) → B .check t ≡ Table → meets (view t) f ≡ true → meets (view t) g ≡ true → ((p s : ℕ) → Listed (view t) p s → (q : Place) → Named (componentsOf (view t) p s) q → bitIn f q ≡ bitIn g q) → (p s : ℕ) → Listed (view t) p s → B .read t f p s ≡ B .read t g p s
+  pub answers : (t f : List ℕ) (p s : ℕ) → Fitting B t f → HasSample (view t) p s → Answered B t f p s
+  pub exactly : (t f g : List ℕ) → Fitting B t f → Fitting B t g → SameAnswers B t f g ↔ SameBits t f g
 
 pub record Demands (B : Calls) : Type 0 where
   pub one : One B

@@ -12,11 +12,11 @@ use Rattle.model.specs.Content.{subframes}
 use Rattle.model.specs.View.{view}
 use Rattle.model.proofs.Laying.{accepted-laid}
 use Rattle.model.proofs.Views.{subframes-view}
-use Rattle.frame.specs.Fitting.{fitOf}
-use Rattle.frame.specs.Comparing.{differsIn, comparedIn, fittedCompared, comparedOf}
-use Rattle.frame.specs.declared.fit.Fit.{Fit}
-use Rattle.frame.specs.declared.fit.Fit.the-variants.{Fits, WrongCount, TooHigh}
-use Rattle.frame.specs.declared.compare.Compared.the-variants.{Passes, NoTable, Differs}
+use Rattle.framing.specs.Fitting.{fitOf}
+use Rattle.framing.specs.Comparing.{differsIn, comparedIn, fittedCompared, comparedOf}
+use Rattle.framing.specs.declared.fit.Fit.{Fit}
+use Rattle.framing.specs.declared.fit.Fit.the-variants.{Fits, WrongCount, TooHigh}
+use Rattle.framing.specs.declared.compare.Compared.the-variants.{Passes, NoTable, Differs}
 use Rattle.ffi.specs.Sizes.{SubframeFits}
 
 module _ (b f : List ℕ) where

@@ -6,9 +6,9 @@ use lib.ListN.{length}
 use Rattle.gather.specs.Ruling.{judgeOf}
 use Rattle.maker.specs.Made.{madeOf, leftOf}
 use Rattle.table.specs.Answers.{checkOf, checkNumber, askedNumber, askedMnemonic}
-use Rattle.frame.specs.Reading.{readOf}
-use Rattle.frame.specs.Placing.{placeOf, placedOf, placeNumber}
-use Rattle.frame.specs.Comparing.{comparedOf}
+use Rattle.framing.specs.Reading.{readOf}
+use Rattle.framing.specs.Placing.{placeOf, placedOf, placeNumber}
+use Rattle.framing.specs.Comparing.{comparedOf}
 use Rattle.ffi.specs.Structs.{madeOut, nameOut, sampleOut, comparedOut}
 use Rattle.ffi.specs.declared.sheets.OrbMade.{OrbMade}
 use Rattle.ffi.specs.declared.tables.OrbName.{OrbName}

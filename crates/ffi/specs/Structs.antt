@@ -8,12 +8,12 @@ use Rattle.maker.specs.declared.make.Made.{Made}
 use Rattle.maker.specs.declared.make.Made.the-variants as made
 use Rattle.table.specs.Answers.{askedRefusal, nameAnswered, placeAnswered}
 use Rattle.table.specs.declared.naming.Asked.{Asked}
-use Rattle.frame.specs.Reading.{readNumber}
-use Rattle.frame.specs.Comparing.{comparedNumber}
-use Rattle.frame.specs.declared.read.Reading.{Reading}
-use Rattle.frame.specs.declared.read.Reading.the-variants as reading
-use Rattle.frame.specs.declared.compare.Compared.{Compared}
-use Rattle.frame.specs.declared.compare.Compared.the-variants as compared
+use Rattle.framing.specs.Reading.{readNumber}
+use Rattle.framing.specs.Comparing.{comparedNumber}
+use Rattle.framing.specs.declared.read.Reading.{Reading}
+use Rattle.framing.specs.declared.read.Reading.the-variants as reading
+use Rattle.framing.specs.declared.compare.Compared.{Compared}
+use Rattle.framing.specs.declared.compare.Compared.the-variants as compared
 use Rattle.ffi.specs.declared.sheets.OrbMade.{OrbMade}
 use Rattle.ffi.specs.declared.tables.OrbName.{OrbName}
 use Rattle.ffi.specs.declared.frames.OrbSample.{OrbSample}

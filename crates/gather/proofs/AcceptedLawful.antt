@@ -1,6 +1,6 @@
 -- Whatever sheet the judge accepts, its Content obeys every limit and every rule of 13 to 16; so its writing is a table, and
 -- the table says it. Assumes nothing.
-use mathlib.Core.Path.{_≡_, refl}
+use mathlib.Core.Path.{_≡_, refl, sym, _∙_}
 use mathlib.Core.Bool.{Bool, true, false, cond, not}
 use mathlib.Core.Logic.{_⊎_, inl, inr}
 use mathlib.Core.List.{List, []}
@@ -38,6 +38,7 @@ use Rattle.gather.specs.Ruling.{Accepted, Refused, firstBad, identified,
 use Rattle.gather.proofs.Counts.{samples-counted, components-counted}
 use Rattle.gather.proofs.Sound.{Between, Sound}
 use Rattle.gather.proofs.Steps.{sound-step}
+use Rattle.gather.proofs.Stages.{unended-run}
 
 pub never : {A : Type 0} (r : Refusal) (k : ℕ) (c : Content) → Refused r k ≡ Accepted c → A
 never r k c e = absurd (let z : _≡_ {A = ℕ} 0 1 = cc in omega arith)
@@ -129,7 +130,7 @@ at-end-lawful d K os k c h e =
 pub run-lawful : (d : Due) (K : Book) (os : List ℕ) (k : ℕ) (ls : Lines) (c : Content) → Sound d K → run d K os k ls ≡ Accepted c → lawful base c ≡ true
 unfolding run
 run-lawful d K os k noLines c h e = at-end-lawful d K os (k + 1) c h e
-run-lawful d K os k unended c h e = never Unended (k + 1) c e
+run-lawful d K os k (unended l) c h e = never Unended (k + 1) c (sym (unended-run d K os k l) ∙ e)
 run-lawful d K os k (line l ls) c h e =
     go (lineJudged true l (testsOf (formAt d K l) K l)) refl
     (λ w q. run-lawful (dueAfter (formAt d K l)) (grow (formAt d K l) l K) (opens (formAt d K l) (k + 1) os) (k + 1) ls c w q)

@@ -126,7 +126,7 @@ run-hit : (i : ℕ) (g : Stage) (os : List ℕ) (n : ℕ) (ls : Lines) (r : Refu
     → first (testsAt i g ls) ≡ judged.Refused r → run (g .due) (g .book) os n ls ≡ Refused r (n + i + 1)
 unfolding run lineJudged
 run-hit i g os n none r h a e = absurd (omega arith)
-run-hit i g os n unended r h a e = absurd (omega arith)
+run-hit i g os n (unended l) r h a e = absurd (omega arith)
 run-hit zero g os n (line l ls) r h a e =
     let k : n + 1 ≡ n + 0 + 1 = omega arith in
     ap (λ (v : Judged). onJudged v (n + 1) (run (next g l .due) (next g l .book) (opens (formIn g l) (n + 1) os) (n + 1) ls)) e ∙ ap (Refused r) k

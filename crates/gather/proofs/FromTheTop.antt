@@ -34,9 +34,9 @@ same-run : (i : ℕ) (g : Stage) (os : List ℕ) (n : ℕ) (xs ys : Lines) (r : 
 unfolding run lineJudged first
 same-run zero g os n xs ys r k o c f e = let h = hit-after g n os xs r k o e in absurd (omega arith)
 same-run (suc i) g os n none ys r k o c f e = let h = hit-after g n os none r k o e in absurd (omega arith)
-same-run (suc i) g os n unended ys r k o c f e = let h = hit-after g n os unended r k o e in absurd (omega arith)
+same-run (suc i) g os n (unended l) ys r k o c f e = let h = hit-after g n os (unended l) r k o e in absurd (omega arith)
 same-run (suc i) g os n (line l xs) none r k o c f e = let z : _≡_ {A = ℕ} 0 1 = cc in absurd (omega arith)
-same-run (suc i) g os n (line l xs) unended r k o c f e = let z : _≡_ {A = ℕ} 0 1 = cc in absurd (omega arith)
+same-run (suc i) g os n (line l xs) (unended y) r k o c f e = let z : _≡_ {A = ℕ} 0 1 = cc in absurd (omega arith)
 same-run (suc i) g os n (line l xs) (line m ys) r k o c f e =
     let same : m ≡ l = cc in
     let rest : firstLines i xs ≡ firstLines i ys = cc in
@@ -61,12 +61,12 @@ same-from-the-top s y r k o h f e =
 -- lines after whole lines
 abbrev after : Lines → Lines → Lines
 after none m = m
-after unended m = unended
+after (unended l) m = unended l
 after (line l ls) m = line l (after ls m)
 
 push-whole : (b : ℕ) (p q m : Lines) → whole (push b p) ≡ true → (whole p ≡ true → q ≡ after p m) → push b q ≡ after (push b p) m
 push-whole b none q m w f = let z : _≡_ {A = ℕ} 0 1 = cc in absurd (omega arith)
-push-whole b unended q m w f = let z : _≡_ {A = ℕ} 0 1 = cc in absurd (omega arith)
+push-whole b (unended l) q m w f = let z : _≡_ {A = ℕ} 0 1 = cc in absurd (omega arith)
 push-whole b (line l ls) q m w f = rw (f w)
 
 lines-after : (p x : List ℕ) → whole (linesOf p) ≡ true → linesOf (p ++ x) ≡ after (linesOf p) (linesOf x)
@@ -82,7 +82,7 @@ lines-after (b ∷ p) x w = go (eqb b endByte) (lines-after p x) w
 
 first-after : (p m : Lines) → whole p ≡ true → firstLines (lines p) (after p m) ≡ firstLines (lines p) p
 first-after none m w = refl
-first-after unended m w = refl
+first-after (unended l) m w = refl
 first-after (line l ls) m w = ap (λ (t : List (List ℕ)). l ∷ t) (first-after ls m w)
 
 -- p is k whole lines, with which both begin

@@ -1,4 +1,3 @@
-pub mod WallJudged
 pub mod Rows
 pub mod FieldBytes
 pub mod Amounts
@@ -20,4 +19,4 @@ pub mod FromTheTop
 pub mod WordLines
 pub mod ParameterLines
 pub mod NumbersAndLines
-pub mod SheetExamples
+pub mod NoneJudged

@@ -28,7 +28,7 @@ use Rattle.gather.proofs.WordLines.{isParameter, keyword-trim, word-ope
 -- the numbers of the lines that are the word `PARAMETER:`, after n lines
 abbrev pub parameterLines : ℕ → Lines → List ℕ
 parameterLines n none = []
-parameterLines n unended = []
+parameterLines n (unended l) = []
 parameterLines n (line l ls) =
     cond (isParameter (keywordOf l)) ((n + 1) ∷ parameterLines (n + 1) ls) (parameterLines (n + 1) ls)
 
@@ -56,7 +56,7 @@ kept-here g l h k os ps = go (isParameter (keywordOf l)) refl
 pub lines-kept : (g : Stage) (n : ℕ) (os : List ℕ) (ls : Lines) → ((i : ℕ) → i < lines ls → AllPass (testsAt i g ls))
     → opened g n os ls ≡ os ++ parameterLines n ls
 lines-kept g n os none h = sym (append-nil os)
-lines-kept g n os unended h = sym (append-nil os)
+lines-kept g n os (unended l) h = sym (append-nil os)
 lines-kept g n os (line l ls) h =
     lines-kept (next g l) (n + 1) (opens (formIn g l) (n + 1) os) ls (λ i k. h (suc i) (omega arith))
     ∙ kept-here g l (h 0 (omega arith)) (n + 1) os (parameterLines (n + 1) ls)
@@ -73,7 +73,7 @@ word-later n l ls k w = record { behind = suc (w .behind); counted = omega (arit
 
 pub word-after : (n : ℕ) (ls : Lines) (i : ℕ) → i < length (parameterLines n ls) → WordAfter n ls (getD (parameterLines n ls) i 0)
 word-after n none i h = absurd (omega arith)
-word-after n unended i h = absurd (omega arith)
+word-after n (unended l) i h = absurd (omega arith)
 word-after n (line l ls) i h = go (isParameter (keywordOf l)) refl i h (word-after (n + 1) ls)
   where
     go : (t : Bool) → isParameter (keywordOf l) ≡ t → (j : ℕ) → j < length (cond t ((n + 1) ∷ parameterLines (n + 1) ls) (parameterLines (n + 1) ls))
@@ -207,7 +207,7 @@ pub count-kept : (g : Stage) (n : ℕ) (os : List ℕ) (ls : Lines) → ((i : �
     → length os ≡ length (g .book .parameters) + openIn (g .due)
     → length (opened g n os ls) ≡ length (reached (lines ls) g ls .book .parameters) + openIn (reached (lines ls) g ls .due)
 count-kept g n os none h e = e
-count-kept g n os unended h e = e
+count-kept g n os (unended l) h e = e
 count-kept g n os (line l ls) h e =
     let f = fits-form l (length (g .book .pairs)) (g .book .declared) (g .due) (h 0 (omega arith) 3) in
     count-kept (next g l) (n + 1) (opens (formIn g l) (n + 1) os) ls (λ i k. h (suc i) (omega arith))

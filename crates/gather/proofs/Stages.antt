@@ -25,22 +25,22 @@ use Rattle.gather.specs.Ruling.{Ruling, Refused, atEnd, formAt, opens, o
 
 -- ---- the lines
 
--- how many lines there are: an unended rest counts none
+-- how many lines there are: one that lacks its end byte does not count
 abbrev pub lines : Lines → ℕ
 lines none = 0
-lines unended = 0
+lines (unended l) = 0
 lines (line l ls) = suc (lines ls)
 
 -- nothing is left without its end byte
 abbrev pub whole : Lines → Bool
 whole none = true
-whole unended = false
+whole (unended l) = false
 whole (line l ls) = whole ls
 
 -- line i, counted from 0, without its end byte
 abbrev pub lineOf : ℕ → Lines → List ℕ
 lineOf i none = []
-lineOf i unended = []
+lineOf i (unended l) = []
 lineOf zero (line l ls) = l
 lineOf (suc i) (line l ls) = lineOf i ls
 
@@ -48,7 +48,7 @@ lineOf (suc i) (line l ls) = lineOf i ls
 abbrev pub firstLines : ℕ → Lines → List (List ℕ)
 firstLines zero ls = []
 firstLines (suc n) none = []
-firstLines (suc n) unended = []
+firstLines (suc n) (unended l) = []
 firstLines (suc n) (line l ls) = l ∷ firstLines n ls
 
 -- ---- before each line
@@ -76,7 +76,7 @@ next g l = record { due = dueAfter (formIn g l); book = grow (formIn g l) l (g .
 abbrev pub reached : ℕ → Stage → Lines → Stage
 reached zero g ls = g
 reached (suc i) g none = g
-reached (suc i) g unended = g
+reached (suc i) g (unended l) = g
 reached (suc i) g (line l ls) = reached i (next g l) ls
 
 -- the tests of line i
@@ -90,10 +90,15 @@ AllPass js = (j : ℕ) → getD js j judged.Passes ≡ judged.Passes
 -- the lines of the `PARAMETER:` words, after n lines and the words at os
 abbrev pub opened : Stage → ℕ → List ℕ → Lines → List ℕ
 opened g n os none = os
-opened g n os unended = os
+opened g n os (unended l) = os
 opened g n os (line l ls) = opened (next g l) (n + 1) (opens (formIn g l) (n + 1) os) ls
 
 -- ---- the course of the judge
+
+-- 4 stands before all else in a line
+pub unended-run : (d : Due) (K : Book) (os : List ℕ) (k : ℕ) (l : List ℕ) → run d K os k (unended l) ≡ Refused Unended (k + 1)
+unfolding run lineJudged first
+unended-run d K os k l = refl
 
 -- refused at a line after lines that pass; or all lines pass, and it is refused at a rest without its end byte, or ruled
 -- where the lines end
@@ -107,7 +112,7 @@ pub data Course (g : Stage) (n : ℕ) (os : List ℕ) (ls : Lines) : Ruling → 
 pub course : (g : Stage) (n : ℕ) (os : List ℕ) (ls : Lines) → Course g n os ls (run (g .due) (g .book) os n ls)
 unfolding run lineJudged first
 course g n os none = let e : n + 1 ≡ n + 0 + 1 = omega arith in rw e (ends refl (λ j h. absurd (omega arith)))
-course g n os unended = let e : n + 1 ≡ n + 0 + 1 = omega arith in rw e (breaks refl (λ j h. absurd (omega arith)))
+course g n os (unended l) = let e : n + 1 ≡ n + 0 + 1 = omega arith in rw e (breaks refl (λ j h. absurd (omega arith)))
 course g n os (line l ls) = go (first (testsIn g l)) refl (course (next g l) (n + 1) (opens (formIn g l) (n + 1) os) ls)
   where
     more : first (testsIn g l) ≡ judged.Passes → (m : ℕ) → ((j : ℕ) → j < m → AllPass (testsAt j (next g l) ls))

@@ -1,6 +1,6 @@
 -- The judge: "Lines are judged from the top."
 use Prim.Native.Nat.{ℕ, _+_}
-use mathlib.Core.Bool.{true, cond, not}
+use mathlib.Core.Bool.{true, false, cond, not}
 use mathlib.Core.List.{List, [], _∷_, _++_}
 use lib.Dec.{eqb, ltb}
 use lib.ListN.{length, getD}
@@ -90,10 +90,12 @@ abbrev pub onJudged : Judged → ℕ → Ruling → Ruling
 onJudged judged.Passes k r = r
 onJudged (judged.Refused q) k r = Refused q k
 
--- the lines from the top, k of them behind
+-- the lines from the top, k of them behind. A last line that lacks its end byte is judged by the same list, and 4 stands
+-- first in it: what would follow never counts
 unfoldable pub run : Due → Book → List ℕ → ℕ → Lines → Ruling
 run d K os k none = atEnd d K os (k + 1)
-run d K os k unended = Refused Unended (k + 1)
+run d K os k (unended l) =
+    onJudged (lineJudged false l (testsOf (formAt d K l) K l)) (k + 1) (atEnd d K os (k + 1))
 run d K os k (line l ls) =
     onJudged (lineJudged true l (testsOf (formAt d K l) K l)) (k + 1)
     (run (dueAfter (formAt d K l)) (grow (formAt d K l) l K) (opens (formAt d K l) (k + 1) os) (k + 1) ls)

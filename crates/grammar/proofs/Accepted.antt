@@ -28,6 +28,7 @@ use Rattle.gather.specs.Tests.{testsOf}
 use Rattle.gather.specs.Ruling.{Accepted, Refused, identified, atEnd, formAt, opens, onJudged, run, longestSheet, judgeOf}
 use Rattle.gather.proofs.Sound.{Between, Sound}
 use Rattle.gather.proofs.Steps.{sound-step}
+use Rattle.gather.proofs.Stages.{unended-run}
 use Rattle.gather.proofs.AcceptedLawful.{never, identified-accepted, at-end-only, accepted-lawful}
 use Rattle.grammar.specs.Items.{Item}
 use Rattle.grammar.specs.Written.{Line, Written}
@@ -143,7 +144,7 @@ record Said (d : Due) (K : Book) (c : Content) (x : List ℕ) : Type 0 where
 run-said : (d : Due) (K : Book) (os : List ℕ) (k : ℕ) (ls : Lines) (c : Content) → Sound d K → run d K os k ls ≡ Accepted c → (x : List ℕ) → linesOf x ≡ ls → Said d K c x
 unfolding run
 run-said d K os k none c h e x q = record { lines = []; written = lines-none x q; left = at-end d K os (k + 1) c h e }
-run-said d K os k unended c h e x q = never Unended (k + 1) c e
+run-said d K os k (unended l) c h e x q = never Unended (k + 1) c (sym (unended-run d K os k l) ∙ e)
 run-said d K os k (line l ls) c h e x q =
     go (lineJudged true l (testsOf (formAt d K l) K l)) refl
     (λ w r y z. run-said (dueAfter (formAt d K l)) (grow (formAt d K l) l K) (opens (formAt d K l) (k + 1) os) (k + 1) ls c w r y z)

@@ -134,7 +134,7 @@ module _ (K : Book) (os : List ℕ) (k : ℕ) (c : Content) (h : Lawful base c) 
 abbrev AreLines : Lines → List (List Item) → Type 0
 AreLines none [] = Unit {0}
 AreLines none (items ∷ rest) = ⊥
-AreLines unended lines = ⊥
+AreLines (unended l) lines = ⊥
 AreLines (line l ls) [] = ⊥
 AreLines (line l ls) (items ∷ rest) = Line l items × AreLines ls rest
 
@@ -142,7 +142,7 @@ run-accepts : (d : Due) (K : Book) (os : List ℕ) (k : ℕ) (ls : Lines) (lines
 unfolding run
 run-accepts d K os k none [] c h b w x = end-accepts K os (k + 1) c h d x
 run-accepts d K os k none (items ∷ rest) c h b w x = absurd w
-run-accepts d K os k unended lines c h b w x = absurd w
+run-accepts d K os k (unended l) lines c h b w x = absurd w
 run-accepts d K os k (line l ls) [] c h b w x = absurd w
 run-accepts d K os k (line l ls) (items ∷ rest) c h b w x =
     let s = reads d K l c items rest h b (w .0) x in

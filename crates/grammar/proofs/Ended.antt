@@ -28,7 +28,7 @@ lines-none (b ∷ x) h = absurd (go (eqb b endByte) (linesOf x) h)
     go : (t : Bool) (ls : Lines) → cond t (line [] ls) (push b ls) ≡ none → ⊥
     go true ls e = let z : _≡_ {A = ℕ} 0 1 = cc in omega arith
     go false none e = let z : _≡_ {A = ℕ} 0 1 = cc in omega arith
-    go false unended e = let z : _≡_ {A = ℕ} 0 1 = cc in omega arith
+    go false (unended l) e = let z : _≡_ {A = ℕ} 0 1 = cc in omega arith
     go false (line l ls) e = let z : _≡_ {A = ℕ} 0 1 = cc in omega arith
 
 -- a first line, and the bytes past its end byte
@@ -50,7 +50,7 @@ lines-line (b ∷ x) l ls h = go (lines-line x) (eqb b endByte) refl (linesOf x)
         let n : ls ≡ ms = cc in
         record { rest = x; written = cc; left = cc }
     go ih false e none p q = let z : _≡_ {A = ℕ} 0 1 = cc in absurd (omega arith)
-    go ih false e unended p q = let z : _≡_ {A = ℕ} 0 1 = cc in absurd (omega arith)
+    go ih false e (unended k) p q = let z : _≡_ {A = ℕ} 0 1 = cc in absurd (omega arith)
     go ih false e (line k ks) p q =
         let c = ih k ks p in
         let m : l ≡ b ∷ k = cc in

@@ -5,10 +5,7 @@ use mathlib.Core.Logic.{_↔_}
 use mathlib.Core.List.{List}
 use Prim.Native.Nat.{ℕ}
 use Rattle.model.specs.Content.{Content}
-use Rattle.model.specs.Wall.{wall}
 use Rattle.gather.specs.Ruling.{Ruling, Accepted, Refused, judgeOf}
-use Rattle.gather.specs.WallSheet.{wallSheet}
-use Rattle.gather.proofs.WallJudged.{wall-accepted}
 use Rattle.grammar.specs.Says.{Says}
 use Rattle.grammar.proofs.Accepted.{accepted-says}
 use Rattle.grammar.proofs.Accepts.{says-accepted}
@@ -24,7 +21,3 @@ content d (Refused q k) = d
 -- a sheet says one thing
 pub one-saying : (x : List ℕ) (c d : Content) → Says x c → Says x d → c ≡ d
 one-saying x c d p q = ap (content c) (sym (says-accepted x c p) ∙ says-accepted x d q)
-
--- 01's sheet on the wall, in its own bytes
-pub wall-sheet-says : Says wallSheet wall
-wall-sheet-says = accepted-says wallSheet wall wall-accepted

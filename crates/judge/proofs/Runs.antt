@@ -25,8 +25,9 @@ use Rattle.lineforms.specs.declared.due.Form.{Form}
 use Rattle.model.specs.Content.{Content}
 use Rattle.gather.specs.Book.{Book, emptyBook, grow, contentOf}
 use Rattle.gather.specs.Tests.{dueTest, roomTest, fieldTests, sampleTest, namesTest, testsOf}
-use Rattle.gather.specs.Ruling.{Accepted, Refused, identified, atEnd, formAt, opens, onJudged, run, longestSheet, judgeOf}
+use Rattle.gather.specs.Ruling.{Ruling, Accepted, Refused, identified, atEnd, formAt, opens, onJudged, run, longestSheet, judgeOf}
 use Rattle.gather.proofs.AcceptedLawful.{identified-accepted}
+use Rattle.gather.proofs.Stages.{unended-run}
 use Rattle.judge.specs.Counts.{tallyOf}
 use Rattle.judge.specs.Walk.{onward, endBook, bookOf, verdictOf, mayEnd}
 use Rattle.judge.specs.declared.walk.Verdict.{Verdict}
@@ -67,13 +68,13 @@ module _ (d : Due) (K : Book) (os : List ℕ) (k : ℕ) (l : List ℕ) (ls : Lin
   unfolding answer run endBook
   answer-refused q e = rw e
 
--- a raw line that is refused, or an unended rest
+-- a raw line that is refused: of one that lacks its end byte, for that
 pub answer-raw : (d : Due) (K : Book) (os : List ℕ) (k : ℕ) (ls : Lines) (q : Refusal) → (ls ≡ none → ⊥) → headJudged ls ≡ judged.Refused q → answer d K os k ls ≡ verdict.Refused q (k + 1)
-unfolding headJudged answer run
+unfolding headJudged answer first
 answer-raw d K os k none q n e = absurd (n refl)
-answer-raw d K os k unended q n e =
+answer-raw d K os k (unended l) q n e =
     let z : Unended ≡ q = cc in
-    ap (λ (r : Refusal). verdict.Refused r (k + 1)) z
+    ap (λ (r : Ruling). verdictOf r (tallyOf (endBook d K (unended l)))) (unended-run d K os k l) ∙ ap (λ (r : Refusal). verdict.Refused r (k + 1)) z
 answer-raw d K os k (line l ls) q n e =
     answer-refused d K os k l ls q
     (line-tests l (formAt d K l) K
@@ -83,13 +84,13 @@ answer-raw d K os k (line l ls) q n e =
 
 count : Lines → ℕ
 count none = 0
-count unended = 1
+count (unended l) = 1
 count (line l ls) = 1
 
 push-some : (b : ℕ) (ls : Lines) → count (push b ls) ≡ 1
 unfolding count
 push-some b none = refl
-push-some b unended = refl
+push-some b (unended l) = refl
 push-some b (line l ls) = refl
 
 lines-some : (s : List ℕ) → 0 < length s → linesOf s ≡ none → ⊥
@@ -188,7 +189,7 @@ end-book due.Nothing K os k c e = identified-accepted (contentOf K) os c e .same
 run-book : (d : Due) (K : Book) (os : List ℕ) (k : ℕ) (ls : Lines) (c : Content) → run d K os k ls ≡ Accepted c → c ≡ contentOf (endBook d K ls)
 unfolding run endBook
 run-book d K os k none c e = end-book d K os (k + 1) c e
-run-book d K os k unended c e = never Unended (k + 1) c e
+run-book d K os k (unended l) c e = never Unended (k + 1) c (sym (unended-run d K os k l) ∙ e)
 run-book d K os k (line l ls) c e =
     go (lineJudged true l (testsOf (formAt d K l) K l))
     (λ q. run-book (dueAfter (formAt d K l)) (grow (formAt d K l) l K) (opens (formAt d K l) (k + 1) os) (k + 1) ls c q)

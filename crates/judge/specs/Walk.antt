@@ -30,7 +30,7 @@ onward (judged.Refused q) K B = K
 
 unfoldable pub endBook : Due → Book → Lines → Book
 endBook d K none = K
-endBook d K unended = K
+endBook d K (unended l) = K
 endBook d K (line l ls) =
     onward (lineJudged true l (testsOf (formAt d K l) K l)) K (endBook (dueAfter (formAt d K l)) (grow (formAt d K l) l K) ls)
 

@@ -24,13 +24,13 @@ use Rattle.model.specs.Stored.{parametersIn, sampleCountIn, firstSampleIn, name
 use Rattle.model.specs.View.{view, parameterAt, sampleAt}
 use Rattle.model.proofs.Views.{parameter-view, samples-at, samples-are}
 use Rattle.rules.specs.Ruled.{Ruled, subframesOf}
-use Rattle.frame.proofs.Answered.{raw-below}
-use Rattle.frame.proofs.Listed.{listed-at}
+use Rattle.framing.proofs.Answered.{raw-below}
+use Rattle.framing.proofs.Listed.{listed-at}
 use Rattle.model.proofs.Pieces.{width-some}
-use Rattle.frame.specs.Reading.{rawOf, widthIs, valueOf, sampleRead}
-use Rattle.frame.specs.declared.read.Reading.{Reading}
-use Rattle.frame.specs.declared.read.Reading.the-variants as reading
-use Rattle.frame.specs.declared.want.Wanted.{Wanted}
+use Rattle.framing.specs.Reading.{rawOf, widthIs, valueOf, sampleRead}
+use Rattle.framing.specs.declared.read.Reading.{Reading}
+use Rattle.framing.specs.declared.read.Reading.the-variants as reading
+use Rattle.framing.specs.declared.want.Wanted.{Wanted}
 use Rattle.listed.specs.Lines.{rowText}
 use Rattle.listed.specs.Listing.{sampleRow, parameterRows}
 use Rattle.listed.proofs.DecimalLaws.{decimal-short}

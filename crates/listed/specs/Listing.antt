@@ -6,9 +6,9 @@ use lib.ListN.{length}
 use Rattle.lay.specs.Below.{tab, flat}
 use Rattle.lay.specs.Bytes.{numAt}
 use Rattle.model.specs.Content.{Content, parameter}
-use Rattle.frame.specs.Reading.{rawOf, widthIs, valueOf}
-use Rattle.frame.specs.declared.fit.Fit.{Fit}
-use Rattle.frame.specs.declared.fit.Fit.the-variants.{Fits, WrongCount, TooHigh}
+use Rattle.framing.specs.Reading.{rawOf, widthIs, valueOf}
+use Rattle.framing.specs.declared.fit.Fit.{Fit}
+use Rattle.framing.specs.declared.fit.Fit.the-variants.{Fits, WrongCount, TooHigh}
 use Rattle.listed.specs.Decimals.{decimalText}
 use Rattle.listed.specs.Lines.{endByte, rowText}
 

@@ -2,9 +2,9 @@
 use crate::rows::put_field;
 use crate::rows::put_part;
 use crate::rows::put_row;
-use frame::fit::Fit;
-use frame::read::Reading;
 use frame::read::sample_in;
+use framing::fit::Fit;
+use framing::read::Reading;
 use lay::put::put_text;
 use rules::texts::name_in;
 use stored::items::parameter_at;

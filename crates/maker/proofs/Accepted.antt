@@ -1,5 +1,5 @@
 -- What is known of an accepted sheet, once it is read to its end. Assumes nothing.
-use mathlib.Core.Path.{_≡_, refl, sym, subst}
+use mathlib.Core.Path.{_≡_, refl, sym, subst, _∙_}
 use mathlib.Core.Bool.{Bool, true, false, cond}
 use mathlib.Core.List.{List, []}
 use Prim.Native.Nat.{ℕ, _+_, _≤_}
@@ -17,6 +17,7 @@ use Rattle.gather.specs.Book.{Book, emptyBook, grow, contentOf}
 use Rattle.gather.specs.Ruling.{Accepted, Refused, longestSheet, formAt, opens, run, judgeOf}
 use Rattle.gather.proofs.Sound.{Between, Sound}
 use Rattle.gather.proofs.Steps.{sound-step}
+use Rattle.gather.proofs.Stages.{unended-run}
 use Rattle.gather.proofs.Tellings.{told}
 use Rattle.judge.specs.Counts.{Small, tallyOf}
 use Rattle.judge.specs.Walk.{endBook, bookOf}
@@ -30,7 +31,7 @@ use Rattle.maker.proofs.Walks.{accepted-on, end-on, end-clear}
 end-small : (d : Due) (K : Book) (os : List ℕ) (k : ℕ) (ls : Lines) (c : Content) → Sound d K → Stands d K os → run d K os k ls ≡ Accepted c → Small (tallyOf (endBook d K ls)) 100000
 unfolding endBook run
 end-small d K os k none c h v e = small K os (few d K os h v)
-end-small d K os k unended c h v e = let o : _≡_ {A = ℕ} 0 1 = cc in absurd (omega arith)
+end-small d K os k (unended l) c h v e = let q = sym (unended-run d K os k l) ∙ e in let o : _≡_ {A = ℕ} 0 1 = cc in absurd (omega arith)
 end-small d K os k (line l ls) c h v e =
     let o = accepted-on d K os k l ls c e in
     let n = sound-step d K l h (o .passes) in

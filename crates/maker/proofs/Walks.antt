@@ -26,6 +26,7 @@ use Rattle.lineforms.specs.declared.due.Form.the-variants as form
 use Rattle.model.specs.Content.{Content, noParameter}
 use Rattle.gather.specs.Book.{Book, grow}
 use Rattle.gather.specs.Tests.{dueTest, testsOf}
+use Rattle.gather.proofs.Stages.{unended-run}
 use Rattle.gather.specs.Ruling.{Ruling, Accepted, Refused, formAt, opens, atEnd, onJudged, run}
 use Rattle.judge.specs.Walk.{onward, endBook}
 use Rattle.laying.proofs.Clear.{Clear, Kept, clear-at, clear-step}
@@ -85,7 +86,7 @@ end-on d K l ls p = ap (λ (j : Judged). onward j K (endBook (dueAfter (formAt d
 pub rises-end : (n : ℕ) (d : Due) (K : Book) (os : List ℕ) (k : ℕ) (ls : Lines) (c : Content) → Clear d K → run d K os k ls ≡ Accepted c → Rises n K (endBook d K ls)
 unfolding endBook
 rises-end n d K os k none c h e = rises-same n K
-rises-end n d K os k unended c h e = rises-same n K
+rises-end n d K os k (unended l) c h e = rises-same n K
 rises-end n d K os k (line l ls) c h e =
     let o = accepted-on d K os k l ls c e in
     let at = clear-at K l d h in
@@ -121,7 +122,7 @@ end-due P due.Nothing K os k c h e = inr h
 pub end-clear : (d : Due) (K : Book) (os : List ℕ) (k : ℕ) (ls : Lines) (c : Content) → Clear d K → run d K os k ls ≡ Accepted c → endBook d K ls .opened ≡ noParameter
 unfolding endBook run
 end-clear d K os k none c h e = ⊎-elim (λ p. p) (λ p. p) (end-due (λ x. Clear x K) d K os (k + 1) c h e)
-end-clear d K os k unended c h e = let o : _≡_ {A = ℕ} 0 1 = cc in absurd (omega arith)
+end-clear d K os k (unended l) c h e = let q = sym (unended-run d K os k l) ∙ e in let o : _≡_ {A = ℕ} 0 1 = cc in absurd (omega arith)
 end-clear d K os k (line l ls) c h e =
     let o = accepted-on d K os k l ls c e in
     let at = clear-at K l d h in
@@ -147,7 +148,7 @@ some-line t h e = go (ltb (indexOf endByte t) (length t)) refl
 pub refused-not : (d : Due) (K : Book) (os : List ℕ) (k : ℕ) (ls : Lines) (c : Content) (r : Refusal) → (ls ≡ none → ⊥) → run d K os k ls ≡ Accepted c → headJudged ls ≡ judged.Refused r → ⊥
 unfolding run headJudged lineJudged
 refused-not d K os k none c r m e h = m refl
-refused-not d K os k unended c r m e h = let o : _≡_ {A = ℕ} 0 1 = cc in omega arith
+refused-not d K os k (unended l) c r m e h = let q = sym (unended-run d K os k l) ∙ e in let o : _≡_ {A = ℕ} 0 1 = cc in omega arith
 refused-not d K os k (line l ls) c r m e h =
     let o = accepted-on d K os k l ls c e in
     let q : orElse (first (rawHits true l)) (first (hits (testsOf (formAt d K l) K l))) ≡ judged.Passes = sym (first-append (rawHits true l) (hits (testsOf (formAt d K l) K l))) ∙ o .passes in

@@ -1,8 +1,8 @@
 // All samples of a frame by a table that is checked once: what speed/ compares with plain C.
-use frame::fit::Fit;
 use frame::fit::fit_of;
-use frame::read::Reading;
 use frame::read::sample_in;
+use framing::fit::Fit;
+use framing::read::Reading;
 use rules::bases::bases_of;
 use stored::items::counts_of;
 use stored::items::parameter_at;

@@ -1,6 +1,6 @@
 -- A frame that fits is as long as the samples ask.
 use mathlib.Core.Path.{sym, _∙_}
-use Rattle.frame.proofs.WantCases.{fits-long}
+use Rattle.framing.proofs.WantCases.{fits-long}
 use borrow.Author.Needs.{needs}
 use Rattle.speedlib.proofs.frame_values.Statement.{statement}
 use Rattle.speedlib.proofs.frame_values.Tie as tie

@@ -1,6 +1,6 @@
 -- The number of what the bench answers, and the words it leaves.
 use mathlib.Core.Path.{ap, _∙_}
-use Rattle.frame.specs.Placing.{placeNumber}
+use Rattle.framing.specs.Placing.{placeNumber}
 use borrow.Author.Needs.{needs}
 use Rattle.ffi.proofs.frames.orb_place.Statement.{statement}
 use Rattle.ffi.proofs.frames.orb_place.Tie as tie

@@ -2,7 +2,7 @@
 use mathlib.Core.Path.{sym, _∙_}
 use borrow.Author.Tests.{not-false}
 use Rattle.table.proofs.Accepting.{accepted-ruled}
-use Rattle.frame.proofs.WantCases.{fits-long}
+use Rattle.framing.proofs.WantCases.{fits-long}
 use borrow.Author.Needs.{needs}
 use Rattle.listing.proofs.show.fitted.Statement.{statement}
 use Rattle.listing.proofs.show.fitted.Tie as tie

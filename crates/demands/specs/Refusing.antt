@@ -1,0 +1,95 @@
+-- 01's refusals, call by call: what must hold, in 01's order, each with the number that is given where it does not.
+use mathlib.Core.Bool.{Bool, _&&_, not, cond}
+use mathlib.Core.List.{List, [], _∷_, _++_}
+use Prim.Native.Nat.{ℕ, _+_, _-_, _^_}
+use lib.Dec.{eqb, leb, ltb}
+use lib.ListN.{length}
+use Rattle.lay.specs.Below.{any}
+use Rattle.lay.specs.Bytes.{same}
+use Rattle.sample.specs.declared.component.Component.{Component}
+use Rattle.sample.specs.Joining.{width}
+use Rattle.model.specs.Content.{Content, parameter, parameters, sample, subframes}
+use Rattle.model.specs.Samples.{pieces}
+use Rattle.model.specs.Frame.{frameWords, wordsOk}
+use Rattle.model.specs.Accepts.{accepts}
+use Rattle.model.specs.View.{view}
+use Rattle.framing.specs.Comparing.{differsIn}
+
+-- ---- the first rule that is broken gives the number
+
+pub record Rule : Type 0 where
+  pub number : ℕ
+  pub holds : Bool
+
+abbrev pub rule : ℕ → Bool → Rule
+rule n b = record { number = n; holds = b }
+
+-- 0 where all hold
+unfoldable pub firstBroken : List Rule → ℕ
+firstBroken [] = 0
+firstBroken (r ∷ rs) = cond (r .holds) (firstBroken rs) (r .number)
+
+-- ---- what must hold
+
+-- the components of sample s of parameter p, both counted from 1: lowest first, where they stand in a frame
+unfoldable pub componentsOf : Content → ℕ → ℕ → List Component
+componentsOf c p s = pieces (c .subframes) (sample (parameter c (p - 1)) (s - 1))
+
+-- 21, "no such parameter", and 22, "no such sample"
+abbrev pub hasParameter : Content → ℕ → Bool
+hasParameter c p = leb 1 p && leb p (parameters c)
+
+abbrev pub hasSample : Content → ℕ → ℕ → Bool
+hasSample c p s = leb 1 s && leb s (length (parameter c (p - 1) .samples))
+
+-- "an empty or unknown mnemonic gives 21"
+abbrev pub hasMnemonic : Content → List ℕ → Bool
+hasMnemonic c m = leb 1 (length m) && any (parameters c) (λ i. same (parameter c i .mnemonic) m)
+
+-- 19, "word count of the frame differs"; 20 is wordsOk, "any word of the frame at or above two to its bits"
+abbrev pub asManyWords : Content → List ℕ → Bool
+asManyWords c f = eqb (length f) (frameWords c)
+
+-- 23, "value at or above two to the width"
+abbrev pub fitsWidth : Content → ℕ → ℕ → ℕ → Bool
+fitsWidth c p s v = ltb v (2 ^ width (componentsOf c p s))
+
+-- 24, "an identifier differs": in some subframe
+abbrev pub identifiersAgree : Content → List ℕ → Bool
+identifiersAgree c f = not (any (subframes c) (λ s. differsIn c f (s + 1)))
+
+-- ---- 01's order
+
+-- 18, "bytes aren't a table"
+abbrev pub checkRules : List ℕ → List Rule
+checkRules t = rule 18 (accepts t) ∷ []
+
+-- "Reading: 18, 21, 22, 19, 20."
+abbrev pub readRules : List ℕ → List ℕ → ℕ → ℕ → List Rule
+readRules t f p s =
+    rule 18 (accepts t)
+    ∷ rule 21 (hasParameter (view t) p)
+    ∷ rule 22 (hasSample (view t) p s)
+    ∷ rule 19 (asManyWords (view t) f)
+    ∷ rule 20 (wordsOk (view t) f)
+    ∷ []
+
+-- "Placing: the same, then 23."
+abbrev pub placeRules : List ℕ → List ℕ → ℕ → ℕ → ℕ → List Rule
+placeRules t f p s v = readRules t f p s ++ (rule 23 (fitsWidth (view t) p s v) ∷ [])
+
+-- "Comparing: 18, 19, 20, 24"
+abbrev pub compareRules : List ℕ → List ℕ → List Rule
+compareRules t f =
+    rule 18 (accepts t)
+    ∷ rule 19 (asManyWords (view t) f)
+    ∷ rule 20 (wordsOk (view t) f)
+    ∷ rule 24 (identifiersAgree (view t) f)
+    ∷ []
+
+-- "Naming: 18, 21."
+abbrev pub nameRules : List ℕ → ℕ → List Rule
+nameRules t p = rule 18 (accepts t) ∷ rule 21 (hasParameter (view t) p) ∷ []
+
+abbrev pub mnemonicRules : List ℕ → List ℕ → List Rule
+mnemonicRules t m = rule 18 (accepts t) ∷ rule 21 (hasMnemonic (view t) m) ∷ []

@@ -1,0 +1,6 @@
+// What a frame turns out to be.
+pub enum Fit {
+    Fits,
+    WrongCount,
+    TooHigh,
+}

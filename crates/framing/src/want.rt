@@ -1,0 +1,9 @@
+// A listed sample, parameter and sample counted from 0, or why there is none.
+pub enum Wanted {
+    Listed(usize, usize),
+    NoTable,
+    NoParameter,
+    NoSample,
+    OtherCount,
+    HighWord,
+}

@@ -1,0 +1,3 @@
+pub mod WallJudged
+pub mod WallSaid
+pub mod SheetExamples

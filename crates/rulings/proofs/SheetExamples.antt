@@ -1,0 +1,272 @@
+-- Sheets and their rulings, one list under one theorem, by computation: the wall sheet with a line or two changed. The
+-- rulings are those of 01, its "More" and its rules, under its own numbers. Assumes nothing.
+use mathlib.Core.Path.{_≡_, refl, ap, _∙_}
+use mathlib.Core.Bool.{true, false}
+use mathlib.Core.List.{List, [], _∷_, _++_}
+use Prim.Native.Nat.{ℕ, _-_}
+use lib.ListN.{take, drop}
+use Rattle.model.specs.Content.{Content, Parameter}
+use Rattle.lay.specs.Bytes.{same}
+use Rattle.lay.specs.Below.{every}
+use Rattle.ratio.specs.Ratio.{gcdIn, gcd, lowestTerms}
+use Rattle.sample.specs.Clash.{clash, clashAny, twice}
+use Rattle.sample.specs.Joining.{width}
+use Rattle.sample.specs.Flat.{before, position}
+use Rattle.text.specs.Refusals.{refusalNumber, first}
+use Rattle.text.specs.Blanks.{trimStart, trimEnd, trim}
+use Rattle.text.specs.Parts.{indexOf, countOf, holds, upTo, past}
+use Rattle.text.specs.Fields.{blankLine, fieldCount, pieceOf, fieldOf}
+use Rattle.text.specs.Keywords.{recordWord, noneWord, parameterWord, keywordOf}
+use Rattle.lines.specs.Line.{allClean}
+use Rattle.lines.specs.Lines.{linesOf}
+use Rattle.lines.specs.Order.{lineJudged}
+use Rattle.spell.specs.Digits.{allDigits, digitsUpTo, placeOf, places, number, isMarked}
+use Rattle.spell.specs.Texts.{textJudged, versionJudged, emptyJudged}
+use Rattle.spell.specs.Truths.{saysTrue, saysFalse, truthJudged, truthOf, truthOrEmptyJudged}
+use Rattle.spell.specs.Integers.{integerJudged, integerOf, declaredJudged, declaredOf, overlapJudged, marginOf, labelJudged, labelOf}
+use Rattle.spell.specs.Decimals.{millionths, decimalJudged, decimalOf, delayJudged}
+use Rattle.spell.specs.BitRanges.{lowBit, highBit, bitsJudged, bitsOf, componentBitsJudged, componentBitsOf, sourceBitsJudged}
+use Rattle.spell.specs.Durations.{isFraction, isSeconds, fractionOf, badFraction, topOf, bottomOf, secondsJudged, secondsOf}
+use Rattle.lineforms.specs.Forms.{wordForm, countForm, eitherForm, openingForm, afterSampleForm, formOf}
+use Rattle.lineforms.specs.LineFields.{pairIndex, declaredFor, rangeJudged}
+use Rattle.model.specs.Samples.{wordCounts, piece, pieces, widthOf}
+use Rattle.model.specs.Identifiers.{namedApart, identifierOk, identifiedApart, identifies, taken}
+use Rattle.model.specs.Wall.{wall, sync}
+use Rattle.gather.specs.Book.{spread, samplesOf, componentsOf, allComponentsOf, wordsOf, bitsOf as bitsOfPairs}
+use Rattle.gather.specs.Tests.{roomForParameter, roomForSample, roomForComponent, spots, joinedTest, widthTest, apartFrom}
+use Rattle.gather.specs.WallSheet.{wallSheet}
+use Rattle.gather.specs.Ruling.{Ruling, Accepted, Refused, firstBad, identified, run, judgeOf}
+use Rattle.gather.proofs.Stages.{firstLines}
+use Rattle.rulings.proofs.WallJudged.{wall-accepted}
+
+-- ---- sheets
+
+-- lines, each with its end byte
+abbrev sheetOf : List (List ℕ) → List ℕ
+sheetOf [] = []
+sheetOf (l ∷ ls) = l ++ (10 ∷ sheetOf ls)
+
+abbrev wallLines : List (List ℕ)
+wallLines = firstLines 25 (linesOf wallSheet)
+
+-- line k, counted from 1, is another; one more line before line k
+abbrev changed : ℕ → List ℕ → List (List ℕ) → List (List ℕ)
+changed k l ls = take (k - 1) ls ++ (l ∷ drop k ls)
+
+abbrev added : ℕ → List ℕ → List (List ℕ) → List (List ℕ)
+added k l ls = take (k - 1) ls ++ (l ∷ drop (k - 1) ls)
+
+-- the wall sheet with that change
+abbrev changing : ℕ → List ℕ → List ℕ
+changing k l = sheetOf (changed k l wallLines)
+
+abbrev adding : ℕ → List ℕ → List ℕ
+adding k l = sheetOf (added k l wallLines)
+
+-- 12,4,,,1/1 says the same as 12,4,,,1.0
+abbrev pairLine : List ℕ
+pairLine = 49 ∷ 50 ∷ 44 ∷ 52 ∷ 44 ∷ 44 ∷ 44 ∷ 49 ∷ 47 ∷ 49 ∷ []
+
+-- HEADER: and RECORD: with their lines, then NONE
+abbrev noneLines : List (List ℕ)
+noneLines = changed 4 pairLine (take 4 wallLines) ++ (noneWord ∷ [])
+
+abbrev noneContent : Content
+noneContent = record { sequential = true; subframes = wall .subframes; parameters = [] }
+
+-- the same with 12,4,,, and a duration in seconds, and what it says
+abbrev lastingLines : List ℕ → List (List ℕ)
+lastingLines d = changed 4 (49 ∷ 50 ∷ 44 ∷ 52 ∷ 44 ∷ 44 ∷ 44 ∷ d) noneLines
+
+abbrev lastingContent : ℕ → ℕ → Content
+lastingContent top bottom =
+    record {
+      sequential = true;
+      subframes = record { bits = 12; words = 4; leading = 0; trailing = 0; numerator = top; denominator = bottom } ∷ [];
+      parameters = [];
+    }
+
+-- 2.0,A,TypeX,,,001,,,True,,,S,, by the digit S
+abbrev headerFor : ℕ → List ℕ
+headerFor s = 50 ∷ 46 ∷ 48 ∷ 44 ∷ 65 ∷ 44 ∷ 84 ∷ 121 ∷ 112 ∷ 101 ∷ 88 ∷ 44 ∷ 44 ∷ 44 ∷ 48 ∷ 48 ∷ 49 ∷ 44 ∷ 44 ∷ 44 ∷ 84 ∷ 114 ∷ 117 ∷ 101 ∷ 44 ∷ 44 ∷ 44 ∷ s ∷ 44 ∷ 44 ∷ []
+
+-- 1,1,0,B by the digit B
+abbrev oneBit : ℕ → List ℕ
+oneBit d = 49 ∷ 44 ∷ 49 ∷ 44 ∷ 48 ∷ 44 ∷ d ∷ []
+
+-- Sync's PARAMETER: and 7 fields, then eight components
+abbrev eightComponents : List (List ℕ)
+eightComponents =
+    take 6 wallLines
+    ++ (oneBit 49 ∷ oneBit 50 ∷ oneBit 51 ∷ oneBit 52 ∷ oneBit 53 ∷ oneBit 54 ∷ oneBit 55 ∷ oneBit 56 ∷ [])
+
+-- Sync at bit 12 alone, with the value 1
+abbrev syncAtTwelve : Parameter
+syncAtTwelve =
+    record {
+      name = sync .name;
+      mnemonic = [];
+      identification = [];
+      signed = false;
+      identifier = true;
+      value = 1;
+      samples = record { time = 0; components = record { subframe = 1; word = 1; low = 12; high = 12 } ∷ [] } ∷ [];
+    }
+
+abbrev twelveContent : Content
+twelveContent = record { sequential = true; subframes = wall .subframes; parameters = syncAtTwelve ∷ [] }
+
+-- what 01 says of a sheet: the Content it is taken for, or the refusal's number and its line
+pub data Told : Type 0 where
+  takes : Content → Told
+  refuses : ℕ → ℕ → Told
+
+abbrev told : Ruling → Told
+told (Accepted c) = takes c
+told (Refused q k) = refuses (refusalNumber q) k
+
+pub data Case : Type 0 where
+  rules : List ℕ → Told → Case
+
+abbrev pub Holds : Case → Type 0
+Holds (rules s v) = told (judgeOf s) ≡ v
+
+abbrev pub AllHold : List Case → Type 0
+AllHold [] = Unit
+AllHold (c ∷ cs) = Holds c × AllHold cs
+
+-- ends, and bytes
+abbrev pub ends : List Case
+ends =
+    -- the wall, cut into lines and joined again
+    rules (sheetOf wallLines) (takes wall)
+    -- the empty file
+    ∷ rules [] (refuses 4 1)
+    -- the first line alone
+    ∷ rules (sheetOf (take 1 wallLines)) (refuses 4 2)
+    -- two bytes of 200 and no end
+    ∷ rules (200 ∷ 200 ∷ []) (refuses 4 1)
+    -- HEADER: and byte 13
+    ∷ rules (changing 1 (72 ∷ 69 ∷ 65 ∷ 68 ∷ 69 ∷ 82 ∷ 58 ∷ 13 ∷ [])) (refuses 2 1)
+    -- NONE; and with blanks round HEADER:
+    ∷ rules (sheetOf noneLines) (takes noneContent)
+    ∷ rules (sheetOf (changed 1 (32 ∷ 72 ∷ 69 ∷ 65 ∷ 68 ∷ 69 ∷ 82 ∷ 58 ∷ 9 ∷ []) noneLines)) (takes noneContent)
+    -- NONE, and x without an end byte
+    ∷ rules (sheetOf noneLines ++ (120 ∷ [])) (refuses 4 6)
+    -- NONE, and a line x
+    ∷ rules (sheetOf (noneLines ++ ((120 ∷ []) ∷ []))) (refuses 5 6)
+    -- NONE, and a blank line
+    ∷ rules (sheetOf (noneLines ++ ([] ∷ []))) (refuses 5 6)
+    -- NONE, and a line of byte 200
+    ∷ rules (sheetOf (noneLines ++ ((200 ∷ []) ∷ []))) (refuses 2 6)
+    ∷ []
+
+-- what is due, and the order of fields
+abbrev orders : List Case
+orders =
+    -- no version, and version 2.00
+    rules (changing 2 (44 ∷ 65 ∷ 44 ∷ 84 ∷ 121 ∷ 112 ∷ 101 ∷ 88 ∷ 44 ∷ 44 ∷ 44 ∷ 48 ∷ 48 ∷ 49 ∷ 44 ∷ 44 ∷ 44 ∷ 84 ∷ 114 ∷ 117 ∷ 101 ∷ 44 ∷ 44 ∷ 44 ∷ 49 ∷ 44 ∷ 44 ∷ [])) (refuses 8 2)
+    ∷ rules (changing 2 (50 ∷ 46 ∷ 48 ∷ 48 ∷ 44 ∷ 65 ∷ 44 ∷ 84 ∷ 121 ∷ 112 ∷ 101 ∷ 88 ∷ 44 ∷ 44 ∷ 44 ∷ 48 ∷ 48 ∷ 49 ∷ 44 ∷ 44 ∷ 44 ∷ 84 ∷ 114 ∷ 117 ∷ 101 ∷ 44 ∷ 44 ∷ 44 ∷ 49 ∷ 44 ∷ 44 ∷ [])) (refuses 9 2)
+    -- a second RECORD: for one subframe
+    ∷ rules (adding 5 recordWord) (refuses 5 5)
+    -- two pairs for three subframes, then PARAMETER:
+    ∷ rules (sheetOf (changed 2 (headerFor 51) (take 4 wallLines ++ drop 2 wallLines))) (refuses 5 7)
+    -- a third blank line after a parameter
+    ∷ rules (adding 15 []) (refuses 5 15)
+    -- PARAMETER: where the time is due, a blank line there, and two fields
+    ∷ rules (changing 8 parameterWord) (refuses 6 8)
+    ∷ rules (changing 8 []) (refuses 5 8)
+    ∷ rules (changing 8 (44 ∷ [])) (refuses 5 8)
+    -- two fields after the time
+    ∷ rules (changing 9 (44 ∷ [])) (refuses 10 9)
+    -- 1,x,0,0 and 9,x,0,1 and 1,1,1,0
+    ∷ rules (changing 7 (49 ∷ 44 ∷ 120 ∷ 44 ∷ 48 ∷ 44 ∷ 48 ∷ [])) (refuses 6 7)
+    ∷ rules (changing 7 (57 ∷ 44 ∷ 120 ∷ 44 ∷ 48 ∷ 44 ∷ 49 ∷ [])) (refuses 13 7)
+    ∷ rules (changing 7 (49 ∷ 44 ∷ 49 ∷ 44 ∷ 49 ∷ 44 ∷ 48 ∷ [])) (refuses 10 7)
+    ∷ []
+
+-- bits, and 12 and 14
+abbrev pub samples : List Case
+samples =
+    -- bits 13, 0 and 4-1
+    rules (changing 7 (49 ∷ 44 ∷ 49 ∷ 44 ∷ 48 ∷ 44 ∷ 49 ∷ 51 ∷ [])) (refuses 13 7)
+    ∷ rules (changing 7 (49 ∷ 44 ∷ 49 ∷ 44 ∷ 48 ∷ 44 ∷ 48 ∷ [])) (refuses 11 7)
+    ∷ rules (changing 7 (49 ∷ 44 ∷ 49 ∷ 44 ∷ 48 ∷ 44 ∷ 52 ∷ 45 ∷ 49 ∷ [])) (refuses 11 7)
+    -- bits 12: 583 does not fit one bit; with Sync alone and the value 1
+    ∷ rules (changing 7 (49 ∷ 44 ∷ 49 ∷ 44 ∷ 48 ∷ 44 ∷ 49 ∷ 50 ∷ [])) (refuses 16 5)
+    ∷ rules (sheetOf (changed 11 (49 ∷ 44 ∷ 44 ∷ 44 ∷ []) (changed 7 (49 ∷ 44 ∷ 49 ∷ 44 ∷ 48 ∷ 44 ∷ 49 ∷ 50 ∷ []) (changed 4 pairLine (take 14 wallLines))))) (takes twelveContent)
+    -- a ninth component, misspelt, and one of three fields
+    ∷ rules (sheetOf (eightComponents ++ ((120 ∷ 44 ∷ 121 ∷ 44 ∷ 122 ∷ 44 ∷ 119 ∷ []) ∷ []))) (refuses 12 15)
+    ∷ rules (sheetOf (eightComponents ++ ((120 ∷ 44 ∷ 121 ∷ 44 ∷ 122 ∷ []) ∷ []))) (refuses 5 15)
+    -- 1,1,0,12 again in one sample
+    ∷ rules (adding 8 (49 ∷ 44 ∷ 49 ∷ 44 ∷ 48 ∷ 44 ∷ 49 ∷ 50 ∷ [])) (refuses 14 8)
+    -- twelve bits each of words 1, 2 and 3
+    ∷ rules (sheetOf (added 8 (49 ∷ 44 ∷ 50 ∷ 44 ∷ 48 ∷ 44 ∷ 49 ∷ 45 ∷ 49 ∷ 50 ∷ []) (added 8 (49 ∷ 44 ∷ 51 ∷ 44 ∷ 48 ∷ 44 ∷ 49 ∷ 45 ∷ 49 ∷ 50 ∷ []) wallLines))) (refuses 14 9)
+    -- a second sample of one bit, after one of six
+    ∷ rules (sheetOf (added 20 (49 ∷ 44 ∷ 51 ∷ 44 ∷ 48 ∷ 44 ∷ 49 ∷ []) (added 20 (48 ∷ []) wallLines))) (refuses 14 21)
+    ∷ []
+
+-- 15 and 16
+abbrev pub identifiers : List Case
+identifiers =
+    -- two parameters named Sync; and cut after that line
+    rules (changing 16 (83 ∷ 121 ∷ 110 ∷ 99 ∷ 44 ∷ 80 ∷ 67 ∷ 72 ∷ 44 ∷ 44 ∷ 70 ∷ 97 ∷ 108 ∷ 115 ∷ 101 ∷ 44 ∷ 44 ∷ 44 ∷ [])) (refuses 15 16)
+    ∷ rules (sheetOf (take 16 (changed 16 (83 ∷ 121 ∷ 110 ∷ 99 ∷ 44 ∷ 80 ∷ 67 ∷ 72 ∷ 44 ∷ 44 ∷ 70 ∷ 97 ∷ 108 ∷ 115 ∷ 101 ∷ 44 ∷ 44 ∷ 44 ∷ []) wallLines))) (refuses 15 16)
+    -- identifier value 4096 in 12 bits
+    ∷ rules (changing 11 (52 ∷ 48 ∷ 57 ∷ 54 ∷ 44 ∷ 44 ∷ 44 ∷ [])) (refuses 16 5)
+    -- both of these
+    ∷ rules (sheetOf (changed 11 (52 ∷ 48 ∷ 57 ∷ 54 ∷ 44 ∷ 44 ∷ 44 ∷ []) (changed 16 (83 ∷ 121 ∷ 110 ∷ 99 ∷ 44 ∷ 80 ∷ 67 ∷ 72 ∷ 44 ∷ 44 ∷ 70 ∷ 97 ∷ 108 ∷ 115 ∷ 101 ∷ 44 ∷ 44 ∷ 44 ∷ []) wallLines))) (refuses 15 16)
+    -- Pitch an identifier too, unsigned, of value 5, in the same subframe
+    ∷ rules (sheetOf (changed 16 (80 ∷ 105 ∷ 116 ∷ 99 ∷ 104 ∷ 44 ∷ 80 ∷ 67 ∷ 72 ∷ 44 ∷ 44 ∷ 84 ∷ 114 ∷ 117 ∷ 101 ∷ 44 ∷ 44 ∷ 44 ∷ []) (changed 21 (70 ∷ 97 ∷ 108 ∷ 115 ∷ 101 ∷ 44 ∷ 44 ∷ 44 ∷ 100 ∷ 101 ∷ 103 ∷ 44 ∷ []) (changed 22 (53 ∷ 44 ∷ 44 ∷ 44 ∷ []) wallLines)))) (refuses 16 15)
+    -- Pitch alone
+    ∷ rules (sheetOf (take 4 wallLines ++ drop 14 wallLines)) (refuses 16 0)
+    -- two subframes and one identifier
+    ∷ rules (changing 2 (headerFor 50)) (refuses 16 0)
+    ∷ []
+
+-- seconds
+abbrev pub durations : List Case
+durations =
+    -- 2 1/6 and 0.25
+    rules (sheetOf (lastingLines (50 ∷ 32 ∷ 49 ∷ 47 ∷ 54 ∷ []))) (takes (lastingContent 13 6))
+    ∷ rules (sheetOf (lastingLines (48 ∷ 46 ∷ 50 ∷ 53 ∷ []))) (takes (lastingContent 1 4))
+    -- 1/0
+    ∷ rules (sheetOf (lastingLines (49 ∷ 47 ∷ 48 ∷ []))) (refuses 11 4)
+    ∷ []
+
+abbrev pub cases : List Case
+cases = ends ++ (orders ++ (samples ++ (identifiers ++ durations)))
+
+joined-again : sheetOf wallLines ≡ wallSheet
+unfolding linesOf
+joined-again = refl
+
+joined-taken : told (judgeOf (sheetOf wallLines)) ≡ takes wall
+joined-taken = ap told (ap judgeOf joined-again ∙ wall-accepted)
+
+both-hold : (xs ys : List Case) → AllHold xs → AllHold ys → AllHold (xs ++ ys)
+both-hold [] ys h k = k
+both-hold (x ∷ xs) ys h k = (h .0, both-hold xs ys (h .1) k)
+
+ends-hold : AllHold ends
+unfolding same every gcdIn gcd lowestTerms clash clashAny twice width before position first trimStart trimEnd trim indexOf countOf holds upTo past blankLine fieldCount pieceOf fieldOf keywordOf allClean linesOf lineJudged allDigits digitsUpTo placeOf places number isMarked textJudged versionJudged emptyJudged saysTrue saysFalse truthJudged truthOf truthOrEmptyJudged integerJudged integerOf declaredJudged declaredOf overlapJudged marginOf labelJudged labelOf millionths decimalJudged decimalOf delayJudged lowBit highBit bitsJudged bitsOf componentBitsJudged componentBitsOf sourceBitsJudged isFraction isSeconds fractionOf badFraction topOf bottomOf secondsJudged secondsOf wordForm countForm eitherForm openingForm afterSampleForm formOf pairIndex declaredFor rangeJudged wordCounts piece pieces widthOf namedApart identifierOk identifiedApart identifies taken spread samplesOf componentsOf allComponentsOf wordsOf bitsOfPairs roomForParameter roomForSample roomForComponent spots joinedTest widthTest apartFrom firstBad identified run judgeOf
+ends-hold = (joined-taken, (refl, (refl, (refl, (refl, (refl, (refl, (refl, (refl, (refl, (refl, tt)))))))))))
+
+orders-hold : AllHold orders
+unfolding same every gcdIn gcd lowestTerms clash clashAny twice width before position first trimStart trimEnd trim indexOf countOf holds upTo past blankLine fieldCount pieceOf fieldOf keywordOf allClean linesOf lineJudged allDigits digitsUpTo placeOf places number isMarked textJudged versionJudged emptyJudged saysTrue saysFalse truthJudged truthOf truthOrEmptyJudged integerJudged integerOf declaredJudged declaredOf overlapJudged marginOf labelJudged labelOf millionths decimalJudged decimalOf delayJudged lowBit highBit bitsJudged bitsOf componentBitsJudged componentBitsOf sourceBitsJudged isFraction isSeconds fractionOf badFraction topOf bottomOf secondsJudged secondsOf wordForm countForm eitherForm openingForm afterSampleForm formOf pairIndex declaredFor rangeJudged wordCounts piece pieces widthOf namedApart identifierOk identifiedApart identifies taken spread samplesOf componentsOf allComponentsOf wordsOf bitsOfPairs roomForParameter roomForSample roomForComponent spots joinedTest widthTest apartFrom firstBad identified run judgeOf
+orders-hold = (refl, (refl, (refl, (refl, (refl, (refl, (refl, (refl, (refl, (refl, (refl, (refl, tt))))))))))))
+
+samples-hold : AllHold samples
+unfolding same every gcdIn gcd lowestTerms clash clashAny twice width before position first trimStart trimEnd trim indexOf countOf holds upTo past blankLine fieldCount pieceOf fieldOf keywordOf allClean linesOf lineJudged allDigits digitsUpTo placeOf places number isMarked textJudged versionJudged emptyJudged saysTrue saysFalse truthJudged truthOf truthOrEmptyJudged integerJudged integerOf declaredJudged declaredOf overlapJudged marginOf labelJudged labelOf millionths decimalJudged decimalOf delayJudged lowBit highBit bitsJudged bitsOf componentBitsJudged componentBitsOf sourceBitsJudged isFraction isSeconds fractionOf badFraction topOf bottomOf secondsJudged secondsOf wordForm countForm eitherForm openingForm afterSampleForm formOf pairIndex declaredFor rangeJudged wordCounts piece pieces widthOf namedApart identifierOk identifiedApart identifies taken spread samplesOf componentsOf allComponentsOf wordsOf bitsOfPairs roomForParameter roomForSample roomForComponent spots joinedTest widthTest apartFrom firstBad identified run judgeOf
+samples-hold = (refl, (refl, (refl, (refl, (refl, (refl, (refl, (refl, (refl, (refl, tt))))))))))
+
+identifiers-hold : AllHold identifiers
+unfolding same every gcdIn gcd lowestTerms clash clashAny twice width before position first trimStart trimEnd trim indexOf countOf holds upTo past blankLine fieldCount pieceOf fieldOf keywordOf allClean linesOf lineJudged allDigits digitsUpTo placeOf places number isMarked textJudged versionJudged emptyJudged saysTrue saysFalse truthJudged truthOf truthOrEmptyJudged integerJudged integerOf declaredJudged declaredOf overlapJudged marginOf labelJudged labelOf millionths decimalJudged decimalOf delayJudged lowBit highBit bitsJudged bitsOf componentBitsJudged componentBitsOf sourceBitsJudged isFraction isSeconds fractionOf badFraction topOf bottomOf secondsJudged secondsOf wordForm countForm eitherForm openingForm afterSampleForm formOf pairIndex declaredFor rangeJudged wordCounts piece pieces widthOf namedApart identifierOk identifiedApart identifies taken spread samplesOf componentsOf allComponentsOf wordsOf bitsOfPairs roomForParameter roomForSample roomForComponent spots joinedTest widthTest apartFrom firstBad identified run judgeOf
+identifiers-hold = (refl, (refl, (refl, (refl, (refl, (refl, (refl, tt)))))))
+
+durations-hold : AllHold durations
+unfolding same every gcdIn gcd lowestTerms clash clashAny twice width before position first trimStart trimEnd trim indexOf countOf holds upTo past blankLine fieldCount pieceOf fieldOf keywordOf allClean linesOf lineJudged allDigits digitsUpTo placeOf places number isMarked textJudged versionJudged emptyJudged saysTrue saysFalse truthJudged truthOf truthOrEmptyJudged integerJudged integerOf declaredJudged declaredOf overlapJudged marginOf labelJudged labelOf millionths decimalJudged decimalOf delayJudged lowBit highBit bitsJudged bitsOf componentBitsJudged componentBitsOf sourceBitsJudged isFraction isSeconds fractionOf badFraction topOf bottomOf secondsJudged secondsOf wordForm countForm eitherForm openingForm afterSampleForm formOf pairIndex declaredFor rangeJudged wordCounts piece pieces widthOf namedApart identifierOk identifiedApart identifies taken spread samplesOf componentsOf allComponentsOf wordsOf bitsOfPairs roomForParameter roomForSample roomForComponent spots joinedTest widthTest apartFrom firstBad identified run judgeOf
+durations-hold = (refl, (refl, (refl, tt)))
+
+pub examples : AllHold cases
+examples = both-hold ends (orders ++ (samples ++ (identifiers ++ durations))) ends-hold (both-hold orders (samples ++ (identifiers ++ durations)) orders-hold (both-hold samples (identifiers ++ durations) samples-hold (both-hold identifiers durations identifiers-hold durations-hold)))
