@@ -15,7 +15,7 @@ use Rattle.table.specs.declared.check.Checked.the-variants.{Table}
 use Rattle.framing.specs.declared.read.Reading.{Reading}
 use Rattle.demands.specs.Calls.{Calls}
 use Rattle.demands.specs.Refusing.{componentsOf}
-use Rattle.demands.specs.Demands.{HasSample, answerFor, Fitting, Demands}
+use Rattle.demands.specs.Demands.{HasSample, answerFor, Demands}
 
 -- what a read of sample s of parameter p must answer, by what the sheet says
 abbrev pub readBy : Content → List ℕ → ℕ → ℕ → Reading

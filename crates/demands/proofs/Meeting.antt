@@ -1,11 +1,11 @@
 -- Whoever keeps the promises of the bench meets the demands. Assumes nothing.
-use Prim.Native.Nat.{ℕ, _+_, _-_, _^_, _≤_, _<_}
+use Prim.Native.Nat.{ℕ, _-_, _^_, _≤_, _<_}
 use native.Mathlib.Omega.{arith}
 use mathlib.Core.Bool.{Bool, true, false, cond}
 use mathlib.Core.Path.{_≡_, refl, sym, ap, _∙_}
 use mathlib.Core.List.{List}
 use mathlib.Core.Logic.{_⊎_, inl, inr}
-use denote.Ref.{RefT, now}
+use denote.Ref.{now}
 use borrow.Author.Tests.{le-leb, lt-leb}
 use lib.Dec.{ltb}
 use lib.ListN.{length, take, drop}
@@ -15,14 +15,13 @@ use Rattle.sample.specs.Component.{Place, Named}
 use Rattle.sample.specs.Joining.{join, width}
 use Rattle.sample.specs.Source.{bitIn}
 use Rattle.model.specs.Accepts.{accepts}
-use Rattle.model.specs.Content.{Content, parameter, parameters}
+use Rattle.model.specs.Content.{Content}
 use Rattle.model.specs.Frame.{meets}
 use Rattle.model.specs.Samples.{widthOf}
 use Rattle.model.specs.View.{view}
 use Rattle.model.specs.Write.{write}
 use Rattle.model.proofs.Views.{parameters-view, samples-are}
 use Rattle.gather.specs.Ruling.{Ruling, Accepted, Refused, judgeOf}
-use Rattle.grammar.specs.Says.{Says}
 use Rattle.grammar.proofs.Accepted.{accepted-says}
 use Rattle.grammar.proofs.Accepts.{says-accepted}
 use Rattle.maker.specs.Made.{madeOf, leftOf}
@@ -41,8 +40,8 @@ use Rattle.framing.proofs.Agree.{Lists, answers-bits, bits-answers}
 use Rattle.framing.proofs.Answered.{answered, raw-below}
 use Rattle.framing.proofs.PlaceRead.{placing as placing-done, placed-other as other-kept, placed-read}
 use Rattle.demands.specs.Calls.{Calls, Kept}
-use Rattle.demands.specs.Refusing.{componentsOf, firstBroken, placeRules, nameRules, mnemonicRules}
-use Rattle.demands.specs.Demands.{HasSample, meaning, answerFor, Fitting, TooSmall, SheetRefused, EmptyPart, NamePart, One, SheetTaken, NameAnswered, ValuePlaced, Two, SameAnswers, SameBits, Three, Demands}
+use Rattle.demands.specs.Refusing.{componentsOf}
+use Rattle.demands.specs.Demands.{HasSample, meaning, answerFor, Fitting, SheetRefused, One, SheetTaken, NameAnswered, Two, SameAnswers, SameBits, Three, Demands}
 use Rattle.demands.proofs.Numbers.{check-number, read-number, place-number, compare-number, name-number, mnemonic-number}
 use Rattle.demands.proofs.Parts.{unnamed-part, name-asked, mnemonic-asked, named-part, first-differing}
 

@@ -1,20 +1,19 @@
 -- Our definitions' numbers are those of the first broken rule. Assumes nothing.
-use Prim.Native.Nat.{ℕ, zero, suc, _+_, _-_, _^_, _≤_, _<_}
+use Prim.Native.Nat.{ℕ, _+_, _-_, _^_}
 use native.Mathlib.Omega.{arith}
 use mathlib.Core.Bool.{Bool, true, false, cond, not, _&&_}
-use mathlib.Core.Path.{_≡_, refl, sym, ap, _∙_}
-use mathlib.Core.List.{List, [], _∷_}
-use borrow.Author.Tests.{ltb-true, lt-ltb, le-ltb}
-use lib.Dec.{eqb, leb, ltb}
+use mathlib.Core.Path.{_≡_, refl, ap, _∙_}
+use mathlib.Core.List.{List}
+use borrow.Author.Tests.{ltb-true, lt-ltb}
+use lib.Dec.{leb, ltb}
 use lib.ListN.{length}
 use Rattle.lay.specs.Below.{any, find}
-use Rattle.lay.proofs.Below.{Some, any-some, any-made, find-least, find-holds}
+use Rattle.lay.proofs.Below.{any-some, any-made, find-least, find-holds}
 use Rattle.lay.proofs.Tests.{same-tests}
 use Rattle.lay.specs.Bytes.{same}
-use Rattle.sample.specs.Joining.{width}
 use Rattle.model.specs.Accepts.{accepts}
-use Rattle.model.specs.Content.{Content, parameter, parameters, subframes}
-use Rattle.model.specs.Frame.{frameWords, wordsOk}
+use Rattle.model.specs.Content.{parameter, parameters, subframes}
+use Rattle.model.specs.Frame.{wordsOk}
 use Rattle.model.specs.Samples.{widthOf}
 use Rattle.model.specs.View.{view}
 use Rattle.table.specs.Answers.{checkOf, checkNumber, numbered, mnemonicIs, called, askedNumber, askedMnemonic, askedRefusal}
@@ -25,13 +24,11 @@ use Rattle.framing.specs.Wanted.{fitted, wantedIn, wantedOf, wantedNumber}
 use Rattle.framing.specs.Reading.{widthIs, readFor, readOf, readNumber, sampleRead}
 use Rattle.framing.specs.Placing.{placeFor, placeOf, placeNumber}
 use Rattle.framing.specs.Comparing.{differsIn, comparedIn, fittedCompared, comparedOf, comparedNumber}
-use Rattle.framing.specs.declared.fit.Fit.{Fit}
 use Rattle.framing.specs.declared.fit.Fit.the-variants.{Fits, WrongCount, TooHigh}
 use Rattle.framing.specs.declared.want.Wanted.{Wanted}
 use Rattle.framing.specs.declared.want.Wanted.the-variants as wanted
-use Rattle.framing.specs.declared.compare.Compared.{Compared}
 use Rattle.framing.specs.declared.compare.Compared.the-variants as compared
-use Rattle.demands.specs.Refusing.{componentsOf, hasParameter, hasSample, hasMnemonic, asManyWords, fitsWidth, identifiersAgree, firstBroken, checkRules, readRules, placeRules, compareRules, nameRules, mnemonicRules}
+use Rattle.demands.specs.Refusing.{componentsOf, hasParameter, hasSample, asManyWords, firstBroken, checkRules, readRules, placeRules, compareRules, nameRules, mnemonicRules}
 
 -- the first number below n of which p holds is below n exactly where there is one
 found-any : (n : ℕ) (p : ℕ → Bool) → ltb (find n p) n ≡ any n p

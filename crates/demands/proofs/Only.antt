@@ -3,14 +3,14 @@
 use Prim.Native.Nat.{ℕ, _-_, _^_, _≤_, _<_}
 use native.Mathlib.Omega.{arith}
 use native.Mathlib.Decide.{decLe, decLt, ℕ-discrete}
-use mathlib.Core.Bool.{Bool, true, false, cond}
+use mathlib.Core.Bool.{true}
 use mathlib.Core.Path.{_≡_, refl, sym, ap, subst, _∙_}
-use mathlib.Core.List.{List, _++_}
+use mathlib.Core.List.{List}
 use mathlib.Core.Logic.{inl, inr}
 use denote.Ref.{RefT, now}
 use borrow.Author.Tests.{le-leb, lt-leb, ltb-true}
 use lib.IntN.{ℤ}
-use lib.ListN.{length, take, drop, take-append-drop}
+use lib.ListN.{length, take, take-append-drop}
 use Rattle.lay.specs.Bytes.{AreBytes}
 use Rattle.sample.specs.Component.{Place, Named}
 use Rattle.sample.specs.declared.component.Component.{Component}
@@ -24,23 +24,25 @@ use Rattle.model.specs.Frame.{meets}
 use Rattle.model.specs.View.{view}
 use Rattle.model.specs.Write.{write}
 use Rattle.model.proofs.Statements.{accepted-writing}
+use Rattle.model.proofs.WrittenBytes.{write-bytes}
 use Rattle.gather.specs.Ruling.{Ruling, Accepted, Refused, judgeOf}
+use Rattle.gather.proofs.AcceptedLawful.{accepted-lawful}
 use Rattle.grammar.specs.Says.{Says}
 use Rattle.grammar.proofs.Accepted.{accepted-says}
 use Rattle.maker.specs.Made.{madeOf, leftOf}
 use Rattle.maker.specs.declared.make.Made.the-variants as made
+use Rattle.maker.proofs.MadeTables.{made-table}
 use Rattle.bench.specs.Promises.{Makes, Names, NamesBy}
 use Rattle.table.specs.Answers.{NameOf, checkOf, askedNumber, askedMnemonic, askedRefusal, nameAnswered, placeAnswered}
-use Rattle.table.specs.declared.check.Checked.the-variants.{Table}
 use Rattle.table.specs.declared.naming.Asked.{Asked}
 use Rattle.table.specs.declared.naming.Asked.the-variants as asked
 use Rattle.framing.specs.Reading.{readOf, readNumber}
-use Rattle.framing.specs.Placing.{placeOf, placedOf, placeNumber}
+use Rattle.framing.specs.Placing.{placeOf, placedOf}
 use Rattle.framing.specs.Comparing.{comparedOf}
 use Rattle.framing.specs.declared.read.Reading.the-variants.{Sample}
 use Rattle.demands.specs.Calls.{Calls, Kept}
-use Rattle.demands.specs.Refusing.{componentsOf, firstBroken, checkRules, readRules, placeRules, nameRules, mnemonicRules}
-use Rattle.demands.specs.Demands.{HasSample, answerFor, Fitting, EmptyPart, NamePart, ValuePlaced, Demands}
+use Rattle.demands.specs.Refusing.{componentsOf, firstBroken, readRules, placeRules, nameRules, mnemonicRules}
+use Rattle.demands.specs.Demands.{answerFor, Fitting, EmptyPart, NamePart, ValuePlaced, Demands}
 use Rattle.demands.proofs.Numbers.{read-number, place-number, compare-number, name-number, mnemonic-number}
 use Rattle.demands.proofs.Parts.{name-asked, mnemonic-found, first-differing}
 use Rattle.demands.proofs.Told.{same-reading, same-placing, same-checked, same-compared}
@@ -214,3 +216,9 @@ module _ (B : Calls) (D : Demands B) where
         names-by = names-by;
         names-by-numbered = λ t m. D .one .mnemonics t m ∙ sym (mnemonic-number t m);
       }
+
+-- and ours leaves bytes
+pub ours-bytes : LeavesBytes ours
+ours-bytes s l n e =
+    let t = made-table s l n e in
+    subst (λ (x : List ℕ). AreBytes x) (sym (t .table)) (write-bytes 1 (t .content) (accepted-lawful s (t .content) (t .accepted)))

@@ -5,7 +5,7 @@ use native.Mathlib.Decide.{decLt}
 use mathlib.Core.Bool.{Bool, true, false, cond, _&&_}
 use mathlib.Core.Path.{_≡_, refl, sym, ap, subst, _∙_}
 use mathlib.Core.List.{List}
-use denote.Ref.{RefT, now}
+use denote.Ref.{RefT}
 use borrow.Author.Tests.{leb-true, ltb-true, le-leb, lt-ltb}
 use lib.Dec.{leb, ltb}
 use lib.ListN.{length}
@@ -28,8 +28,7 @@ use Rattle.framing.specs.Comparing.{differsIn, comparedIn, fittedCompared, comp
 use Rattle.framing.specs.Fitting.{fitOf}
 use Rattle.framing.specs.declared.fit.Fit.{Fit}
 use Rattle.framing.specs.declared.fit.Fit.the-variants.{Fits, WrongCount, TooHigh}
-use Rattle.framing.specs.declared.compare.Compared.{Compared}
-use Rattle.framing.specs.declared.compare.Compared.the-variants.{Passes, NoTable as NoBytes, OtherCount, HighWord, Differs}
+use Rattle.framing.specs.declared.compare.Compared.the-variants.{Passes, NoTable as NoBytes, Differs}
 use Rattle.demands.specs.Refusing.{firstBroken, nameRules, mnemonicRules}
 use Rattle.demands.specs.Demands.{EmptyPart, NamePart, FirstDiffering}
 use Rattle.demands.proofs.Numbers.{name-number, mnemonic-number}

@@ -7,8 +7,7 @@ use mathlib.Core.Logic.{_⊎_, inl, inr}
 use Prim.Native.Nat.{ℕ, _+_, _-_, _^_, _≤_, _<_}
 use native.Mathlib.Nat.{pow-le-pow-right}
 use native.Mathlib.Omega.{arith}
-use lib.IntN.{ℤ, pos, negsuc}
-use lib.ListN.{length}
+use lib.IntN.{pos, negsuc}
 use Rattle.bits.specs.Word.{bitAt, field}
 use Rattle.bits.specs.Sign.{signed}
 use Rattle.bits.proofs.Signs.{signed-low}
@@ -25,7 +24,7 @@ use Rattle.table.specs.Answers.{checkNumber}
 use Rattle.table.specs.declared.check.Checked.the-variants.{Table}
 use Rattle.framing.specs.declared.read.Reading.{Reading}
 use Rattle.demands.specs.Calls.{Calls}
-use Rattle.demands.specs.Refusing.{componentsOf, firstBroken}
+use Rattle.demands.specs.Refusing.{componentsOf}
 use Rattle.demands.specs.Demands.{HasSample, Fitting, Demands}
 use Rattle.demands.proofs.Wall.{words, fuller, words-meet, fuller-meets, sync-listed, pitch-listed, raw-in, value-in, wallTable, says-wall, fitting, there, reads-pitch, reads-sync, pitch-room}
 use Rattle.demands.proofs.Useless.{eighteen}

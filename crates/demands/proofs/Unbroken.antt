@@ -1,5 +1,5 @@
 -- What holds where none of 01's rules is broken. Assumes nothing.
-use Prim.Native.Nat.{ℕ, _-_, _^_, _<_}
+use Prim.Native.Nat.{ℕ, _-_, _<_}
 use native.Mathlib.Omega.{arith}
 use mathlib.Core.Bool.{Bool, true, false, cond, _&&_}
 use mathlib.Core.Path.{_≡_, refl}
@@ -7,7 +7,6 @@ use mathlib.Core.List.{List, [], _∷_, _++_}
 use borrow.Author.Tests.{leb-true, eqb-true}
 use lib.Dec.{eqb, leb}
 use lib.ListN.{length}
-use Rattle.lay.specs.Below.{every}
 use Rattle.lay.proofs.Tests.{and-0, and-1, rule, none, both}
 use Rattle.model.specs.Accepts.{accepts}
 use Rattle.model.specs.Content.{parameter, parameters}

@@ -1,14 +1,13 @@
 -- Useless versions of a bench, and bad ones: none of them meets the demands. In general form where 01 names a thing invented; else
 -- on the wall sheet, with its table's own bytes lent. Assumes nothing.
 use mathlib.Core.Path.{_≡_, refl, sym, ap, subst, _∙_}
-use mathlib.Core.Bool.{Bool, true, false, cond}
+use mathlib.Core.Bool.{false}
 use mathlib.Core.List.{List, [], _∷_}
 use mathlib.Core.Logic.{inl, inr}
-use Prim.Native.Nat.{ℕ, zero, suc, _-_, _≤_, _<_}
+use Prim.Native.Nat.{ℕ, zero, suc, _-_, _≤_}
 use native.Mathlib.Omega.{arith}
 use native.Mathlib.Decide.{decLe}
-use lib.IntN.{ℤ, pos}
-use lib.ListN.{length, take}
+use lib.ListN.{length}
 use Rattle.bits.specs.Word.{bitAt, field}
 use Rattle.lay.proofs.Tests.{refuse}
 use Rattle.sample.specs.declared.component.Component.{Component}
@@ -26,25 +25,18 @@ use Rattle.text.specs.declared.refusal.Refusal.{Refusal}
 use Rattle.gather.specs.Ruling.{Refused, judgeOf}
 use Rattle.gather.specs.WallSheet.{wallSheet}
 use Rattle.grammar.specs.Says.{Says}
-use Rattle.maker.specs.declared.make.Made.{Made}
 use Rattle.maker.specs.declared.make.Made.the-variants as made
-use Rattle.table.specs.Answers.{checkNumber}
-use Rattle.table.specs.declared.check.Checked.the-variants.{Table, NotTable}
+use Rattle.table.specs.declared.check.Checked.the-variants.{NotTable}
 use Rattle.table.proofs.Accepting.{accepted-ruled}
 use Rattle.framing.specs.Reading.{readNumber}
 use Rattle.framing.specs.Placing.{placeNumber}
 use Rattle.framing.specs.Comparing.{comparedNumber}
-use Rattle.framing.specs.declared.read.Reading.{Reading}
-use Rattle.framing.specs.declared.read.Reading.the-variants.{Sample, Refused as Unread}
-use Rattle.framing.specs.declared.place.Placed.{Placed}
-use Rattle.framing.specs.declared.place.Placed.the-variants as placing
 use Rattle.framing.specs.declared.compare.Compared.the-variants as compared
 use Rattle.demands.specs.Calls.{Calls}
 use Rattle.demands.specs.Refusing.{Rule, rule, componentsOf, firstBroken, placeRules}
 use Rattle.demands.specs.Demands.{HasSample, Fitting, FirstDiffering, Demands}
 use Rattle.demands.proofs.Told.{one-first}
 use Rattle.demands.proofs.Wall.{words, others, lower, words-meet, others-meet, lower-meets, sync-listed, pitch-listed, raw-in, wallTable, made-wall, whole, says-wall, fitting, there, reads-pitch, pitch-room}
-use Rattle.demands.proofs.Ours.{ours}
 
 -- ---- no bytes are no table: 18 stands first in every call
 

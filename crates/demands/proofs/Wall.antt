@@ -1,20 +1,17 @@
 -- The wall's frames, as any bench that meets the demands reads them. Assumes nothing.
 use mathlib.Core.Path.{_≡_, refl, sym, ap, subst, _∙_}
-use mathlib.Core.Bool.{true, false}
+use mathlib.Core.Bool.{true}
 use mathlib.Core.List.{List, [], _∷_}
-use mathlib.Core.Logic.{inl, inr}
 use Prim.Native.Nat.{ℕ, _^_, _<_}
 use native.Mathlib.Omega.{arith}
 use lib.IntN.{ℤ, pos, negsuc}
 use lib.ListN.{length, take}
 use Rattle.bits.specs.Word.{bitAt, field}
 use Rattle.bits.specs.Sign.{signed}
-use Rattle.sample.specs.Component.{Place, Named}
-use Rattle.sample.specs.Source.{bitIn}
 use Rattle.sample.specs.Joining.{partOf, join, width}
 use Rattle.sample.specs.Flat.{sum, before, position}
 use Rattle.lay.specs.Below.{every}
-use Rattle.model.specs.Content.{Content, parameter}
+use Rattle.model.specs.Content.{Content}
 use Rattle.model.specs.Frame.{frameWords, wordsOk, meets}
 use Rattle.model.specs.Samples.{wordCounts, piece, pieces}
 use Rattle.model.specs.View.{view}
@@ -27,7 +24,7 @@ use Rattle.framing.specs.declared.read.Reading.{Reading}
 use Rattle.framing.specs.declared.read.Reading.the-variants.{Sample, Refused}
 use Rattle.demands.specs.Calls.{Calls}
 use Rattle.demands.specs.Refusing.{componentsOf}
-use Rattle.demands.specs.Demands.{HasSample, meaning, answerFor, Fitting, Demands}
+use Rattle.demands.specs.Demands.{HasSample, meaning, Fitting, Demands}
 use Rattle.demands.proofs.EndToEnd.{readBy, ReadAsSaid, read-as-said}
 
 -- ---- 01's frame, one with another first word, one with another second part of Pitch, one with a bit that Pitch does not name

@@ -120,7 +120,8 @@ pub record SheetTaken (B : Calls) : Type 0 where
 -- the parameter's name, asked for by its number or its mnemonic
 pub record NameAnswered (B : Calls) : Type 0 where
   pub name : (t : RefT (List ℕ)) (p : ℕ) → firstBroken (nameRules (now t) p) ≡ 0 → NamePart t (B .name t p) (p - 1)
-  pub mnemonic : (t : RefT (List ℕ)) (m : List ℕ) → firstBroken (mnemonicRules (now t) m) ≡ 0 → (i : ℕ) → i < parameters (view (now t)) → parameter (view (now t)) i .mnemonic ≡ m → NamePart t (B .nameBy t m) i
+  pub mnemonic : (t : RefT (List ℕ)) (m : List ℕ) → firstBroken (mnemonicRules (now t) m) ≡ 0 → (i : ℕ)
+      → i < parameters (view (now t)) → parameter (view (now t)) i .mnemonic ≡ m → NamePart t (B .nameBy t m) i
 
 -- a value placed
 pub record ValuePlaced (B : Calls) (t f : List ℕ) (p s v : ℕ) : Type 0 where
@@ -131,8 +132,10 @@ pub record ValuePlaced (B : Calls) (t f : List ℕ) (p s v : ℕ) : Type 0 where
 pub record Two (B : Calls) : Type 0 where
   pub sheet : SheetTaken B
   pub named : NameAnswered B
-  pub joined : (t f : List ℕ) (p s : ℕ) → Fitting B t f → HasSample (view t) p s → B .read t f p s ≡ answerFor (view t) p s (join f (componentsOf (view t) p s))
-  pub placed : (t f : List ℕ) (p s v : ℕ) → Fitting B t f → HasSample (view t) p s → v < 2 ^ width (componentsOf (view t) p s) → ValuePlaced B t f p s v
+  pub joined : (t f : List ℕ) (p s : ℕ) → Fitting B t f → HasSample (view t) p s
+      → B .read t f p s ≡ answerFor (view t) p s (join f (componentsOf (view t) p s))
+  pub placed : (t f : List ℕ) (p s v : ℕ) → Fitting B t f → HasSample (view t) p s → v < 2 ^ width (componentsOf (view t) p s)
+      → ValuePlaced B t f p s v
 
 -- ---- 3. "Every table made from an accepted sheet passes the table check. For a table that the check accepts, no matter who
 -- made it, and frames that fit it, every listed sample is answered, none refused, its raw value below two to the width; two
