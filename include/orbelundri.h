@@ -1,4 +1,5 @@
-/* The bench for programs in C, and for whatever links as C does. The archive is target/staticlib/libffi.a.
+/* The bench for programs in C, and for whatever links as C does. `rt staticlib ffi` proves and builds the archive,
+ * target/staticlib/libffi.a. It is for x86-64 Linux alone, and of the C library it needs memcpy and memset.
  *
  * Every call answers for every input, keeps nothing between calls, and asks for no memory. What it answers and what it
  * leaves in the lent bytes and words is proved. `number` is 0, or 01's number of the refusal; a refusal writes nothing.
@@ -29,7 +30,9 @@ typedef struct {
     uint32_t at;
 } orb_made;
 
-/* number 0: kind is 1, a sample of so many bits. Else all else is 0. */
+/* number 0: kind is 1, a sample of width bits, 1 to 32. raw is its components joined, the first lowest: 0 to two to the
+ * width less 1. value is raw, or for a signed parameter raw minus two to the width where the sample's top bit is set.
+ * Else all else is 0. */
 typedef struct {
     uint32_t number;
     uint32_t kind;
@@ -61,7 +64,8 @@ uint32_t orb_check(const uint8_t *table, size_t table_len);
 orb_sample orb_read(const uint8_t *table, size_t table_len, const uint16_t *words, size_t words_len,
                     uint32_t parameter, uint32_t sample);
 
-/* A raw value placed into a frame: 0, or 18, 21, 22, 19, 20 or 23, tested in this order. Other bits stay. */
+/* A raw value, as orb_sample's raw, placed into a frame: 0, or 18, 21, 22, 19, 20 or 23, tested in this order. Other
+ * bits stay. For a signed parameter -11 in six bits is placed as 53. */
 uint32_t orb_place(const uint8_t *table, size_t table_len, uint16_t *words, size_t words_len, uint32_t parameter,
                    uint32_t sample, uint64_t value);
 
