@@ -25,61 +25,6 @@ use text::keyword::Keyword;
 use text::keyword::keyword_of;
 use text::refusal::Judged;
 
-// Declared are 1 subframe of 4 words of 12 bits, as on the wall.
-pub enum Kind {
-    Keyword,
-    Words,
-    Subframes,
-    WordBits,
-    Margin,
-    IdentifierValue,
-    DeclaredSubframe,
-    DeclaredWord,
-    Overlap,
-    ComponentBits,
-    SourceBits,
-    Label,
-    TimeOffset,
-    Delay,
-    Seconds,
-    Truth,
-    TruthOrEmpty,
-    Text,
-    Model,
-    Name,
-    Mnemonic,
-    Version,
-    MustBeEmpty,
-}
-
-fn name_text(kind: Kind) {
-    match kind {
-        Kind::Keyword => text(b"keyword "),
-        Kind::Words => text(b"words "),
-        Kind::Subframes => text(b"subframes "),
-        Kind::WordBits => text(b"word-bits "),
-        Kind::Margin => text(b"margin "),
-        Kind::IdentifierValue => text(b"identifier "),
-        Kind::DeclaredSubframe => text(b"declared-subframe "),
-        Kind::DeclaredWord => text(b"declared-word "),
-        Kind::Overlap => text(b"overlap "),
-        Kind::ComponentBits => text(b"component-bits "),
-        Kind::SourceBits => text(b"source-bits "),
-        Kind::Label => text(b"label "),
-        Kind::TimeOffset => text(b"time "),
-        Kind::Delay => text(b"delay "),
-        Kind::Seconds => text(b"seconds "),
-        Kind::Truth => text(b"truth "),
-        Kind::TruthOrEmpty => text(b"truth-or-empty "),
-        Kind::Text => text(b"text "),
-        Kind::Model => text(b"model "),
-        Kind::Name => text(b"name "),
-        Kind::Mnemonic => text(b"mnemonic "),
-        Kind::Version => text(b"version "),
-        Kind::MustBeEmpty => text(b"must-be-empty "),
-    }
-}
-
 fn keyword_text(k: Keyword) {
     match k {
         Keyword::Header => text(b"header"),
@@ -142,39 +87,32 @@ fn seconds_text(s: Seconds) {
     }
 }
 
-fn answer_text(kind: Kind, f: &[u8]) {
+// What a field says by the kind of that number. Declared are 1 subframe of 4 words of 12 bits, as on the wall.
+pub fn answer_text(kind: u64, f: &[u8]) {
     match kind {
-        Kind::Keyword => keyword_text(keyword_of(f)),
-        Kind::Words => number_text(integer(f, 6, 1, 1024)),
-        Kind::Subframes => number_text(integer(f, 6, 1, 32)),
-        Kind::WordBits => number_text(integer(f, 6, 1, 16)),
-        Kind::Margin => number_text(margin(f, 4095)),
-        Kind::IdentifierValue => number_text(integer(f, 10, 0, 4294967295)),
-        Kind::DeclaredSubframe => number_text(declared(f, 1)),
-        Kind::DeclaredWord => number_text(declared(f, 4)),
-        Kind::Overlap => judged_text(overlap(f)),
-        Kind::ComponentBits => bits_text(component_bits(f, 12)),
-        Kind::SourceBits => judged_text(source_bits(f)),
-        Kind::Label => number_text(label(f)),
-        Kind::TimeOffset => number_text(decimal(f, 3)),
-        Kind::Delay => judged_text(delay(f)),
-        Kind::Seconds => seconds_text(seconds(f)),
-        Kind::Truth => truth_text(truth(f)),
-        Kind::TruthOrEmpty => judged_text(truth_or_empty(f)),
-        Kind::Text => judged_text(text_field(f, 200, false)),
-        Kind::Model => judged_text(text_field(f, 200, true)),
-        Kind::Name => judged_text(text_field(f, 64, true)),
-        Kind::Mnemonic => judged_text(text_field(f, 64, false)),
-        Kind::Version => judged_text(version(f)),
-        Kind::MustBeEmpty => judged_text(must_be_empty(f)),
+        0 => keyword_text(keyword_of(f)),
+        1 => number_text(integer(f, 6, 1, 1024)),
+        2 => number_text(integer(f, 6, 1, 32)),
+        3 => number_text(integer(f, 6, 1, 16)),
+        4 => number_text(margin(f, 4095)),
+        5 => number_text(integer(f, 10, 0, 4294967295)),
+        6 => number_text(declared(f, 1)),
+        7 => number_text(declared(f, 4)),
+        8 => judged_text(overlap(f)),
+        9 => bits_text(component_bits(f, 12)),
+        10 => judged_text(source_bits(f)),
+        11 => number_text(label(f)),
+        12 => number_text(decimal(f, 3)),
+        13 => judged_text(delay(f)),
+        14 => seconds_text(seconds(f)),
+        15 => truth_text(truth(f)),
+        16 => judged_text(truth_or_empty(f)),
+        17 => judged_text(text_field(f, 200, false)),
+        18 => judged_text(text_field(f, 200, true)),
+        19 => judged_text(text_field(f, 64, true)),
+        20 => judged_text(text_field(f, 64, false)),
+        21 => judged_text(version(f)),
+        22 => judged_text(must_be_empty(f)),
+        _ => text(b"no kind"),
     }
-}
-
-// One line: the kind, what is shown for the field, and the field's answer.
-pub fn answered(kind: Kind, shown: &[u8], f: &[u8]) {
-    name_text(kind);
-    text(shown);
-    text(b": ");
-    answer_text(kind, f);
-    text(b"\n");
 }

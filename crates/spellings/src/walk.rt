@@ -1,35 +1,56 @@
 // Walks by the line cursor, and over the fields of a raw line.
-use crate::kind::Kind;
-use crate::kind::answered;
+use crate::kind::answer_text;
+use crate::load::load;
 use crate::say::number;
 use crate::say::refused;
 use crate::say::text;
 use lines::Cursor;
 use lines::Found;
+use spell::answers::Number;
+use spell::integers::integer;
 use text::blank::trimmed;
 use text::field::field_at;
 use text::field::field_bytes;
 use text::field::field_count;
 use text::part::between;
+use text::part::past_first;
+use text::part::up_to;
 use text::refusal::Refusal;
 ghost use Prim.Native.Nat.{_≤_};
 ghost use lib.ListN.{length};
 
-// One case: the trimmed line is the field.
-fn case(kind: Kind, line: &[u8]) {
-    let f = trimmed(line);
-    answered(kind, f, f);
+// The number that a line begins with; one that is no kind's shows in the output.
+fn kind_of(line: &[u8]) -> u64 {
+    match integer(up_to(line, 32), 6, 0, 24) {
+        Number::Value(n) => n,
+        Number::Refused(_) => 25,
+    }
+}
+
+// 23 is a raw line's fields, 24 the lines of a file of that name; a field by any other kind is trimmed, as in a line.
+fn case(line: &[u8]) {
+    let kind = kind_of(line);
+    let rest = past_first(line, 32);
+    let f = past_first(rest, 124);
+    text(up_to(rest, 124));
+    text(b": ");
+    match kind {
+        23 => fields_text(f),
+        24 => lines_of_file(f),
+        _ => answer_text(kind, trimmed(f)),
+    }
+    text(b"\n");
 }
 
 // A case for each line of list; a line that the cursor refuses ends them, and shows in the output.
-pub fn cases(kind: Kind, list: &[u8])
+pub fn cases(list: &[u8])
     requires { ⌜ length (now list) ≤ 65536 ⌝ }
 {
     let mut c = Cursor { at: 0, number: 0 };
     while c.at < list.len() {
         match c.next(list) {
             Found::Line { start, end, next } => {
-                case(kind, between(list, start, end));
+                case(between(list, start, end));
                 c = next;
             }
             Found::Refused(r) => {
@@ -38,11 +59,6 @@ pub fn cases(kind: Kind, list: &[u8])
             }
         }
     }
-}
-
-// A case whose line is long or has blanks: a label stands for it.
-pub fn labelled(kind: Kind, label: &[u8], line: &[u8]) {
-    answered(kind, label, trimmed(line));
 }
 
 fn field_text(line: &[u8], k: usize) {
@@ -62,15 +78,11 @@ fn each_field(line: &[u8], n: usize) {
     }
 }
 
-// A raw line, how many fields it has, and each with its place, counted from 0.
-pub fn fields(line: &[u8]) {
+// How many fields a raw line has, and each with its place, counted from 0.
+fn fields_text(line: &[u8]) {
     let n = field_count(line);
-    text(b"fields [");
-    text(line);
-    text(b"]: ");
     number(n as u64);
     each_field(line, n);
-    text(b"\n");
 }
 
 fn line_text(line: &[u8], start: usize, end: usize) {
@@ -86,7 +98,6 @@ fn stopped_text(r: Refusal, line: u32) {
     refused(r);
     text(b" at ");
     number(line as u64);
-    text(b"\n");
 }
 
 // The lines that the cursor finds, each with its bounds and its count of fields, and what it stops at.
@@ -108,11 +119,9 @@ fn found_text(sheet: &[u8])
     }
 }
 
-pub fn walked(label: &[u8], sheet: &[u8])
-    requires { ⌜ length (now sheet) ≤ 65536 ⌝ }
-{
-    text(b"lines <");
-    text(label);
-    text(b">: ");
-    found_text(sheet);
+// Bytes that no line can hold, as an end byte, are a file's.
+fn lines_of_file(name: &[u8]) {
+    let mut sheet = [0u8; 4096];
+    let n = load(name, &mut sheet);
+    found_text(&sheet[..n]);
 }

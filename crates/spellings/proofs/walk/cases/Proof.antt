@@ -10,10 +10,10 @@ use Rattle.spellings.proofs.walk.cases.Statement.{statement}
 use Rattle.spellings.proofs.walk.cases.Tie as tie
 
 abbrev Inv-loop : tie.InvT-loop
-Inv-loop kind list c₀ c = Ready list c
+Inv-loop list c₀ c = Ready list c
 
 abbrev μ-loop : tie.MeasureT-loop
-μ-loop kind list c₀ c = length list - c .at
+μ-loop list c₀ c = length list - c .at
 
 loop-holds : tie.Need-loop-holds Inv-loop μ-loop
 loop-holds c = search needs
