@@ -11,5 +11,6 @@ pub mod Wall
 pub mod Useless
 pub mod Slips
 pub mod Bad
+pub mod WallListed
 pub mod AllExamples
 pub mod NotVacuous
