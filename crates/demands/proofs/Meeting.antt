@@ -143,7 +143,7 @@ module _ (B : Calls) (K : Kept B) where
         places = λ t f p s v. ap placeNumber (K .places t f p s v .0) ∙ place-number t f p s v;
         place-unchanged = λ t f p s v n. K .places t f p s v .1 ∙ placing-unchanged t f p s v (λ e. n (sym (place-number t f p s v) ∙ e));
         compares = λ t f. ap comparedNumber (K .compares t f) ∙ compare-number t f;
-        subframes = λ t f s e. first-differing t f s (sym (K .compares t f) ∙ e);
+        subframe-told = λ t f s e. first-differing t f s (sym (K .compares t f) ∙ e);
         names = λ t p. K .names-numbered t p ∙ name-number t p;
         unnamed = λ t p n. unnamed-part t (B .name t p) (askedNumber (now t) p) (K .names t p) (λ e. n (sym (name-number (now t) p) ∙ e));
         mnemonics = λ t m. K .names-by-numbered t m ∙ mnemonic-number t m;

@@ -147,7 +147,7 @@ module _ (B : Calls) (D : Demands B) where
   compares : (t f : List ℕ) → B .compare t f ≡ comparedOf t f
   compares t f =
       same-compared (view t) f (B .compare t f) (comparedOf t f) (D .one .compares t f ∙ sym (compare-number t f))
-      (λ s e. D .one .subframes t f s e) (λ s e. first-differing t f s e)
+      (λ s e. D .one .subframe-told t f s e) (λ s e. first-differing t f s e)
 
   -- ---- naming
 

@@ -149,7 +149,7 @@ module _ (B : Calls) (D : Demands B) where
 
   -- an invented subframe number: of whatever table and frame, there is no other
   pub no-other-subframe : (t f : List ℕ) (s k : ℕ) → B .compare t f ≡ compared.Differs s → FirstDiffering (view t) f k → s ≡ k
-  no-other-subframe t f s k e x = one-first (view t) f s k (D .one .subframes t f s e) x
+  no-other-subframe t f s k e x = one-first (view t) f s k (D .one .subframe-told t f s e) x
 
   -- ---- bad ones: every read answered, every placing done, every comparison passed, the words wiped
 

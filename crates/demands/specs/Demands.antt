@@ -91,6 +91,8 @@ NamePart t r i = PartOf t r (textPart (now t) + textStartIn (now t) i) (paramete
 -- ---- 1. "Every sheet, table, frame, parameter number, sample number and value gets an answer. Bad input is refused by
 -- number, a bad sheet also by line .. A refusal changes no byte or word of the caller's."
 
+-- A call is refused with n exactly where n is the number of the first broken rule of its list (Refusing), and answered, its number
+-- being 0, exactly where none is broken. A sheet's refusal and line are those of the judge, or 17 at 0.
 pub record One (B : Calls) : Type 0 where
   pub sheets : (s l : List ℕ) (q : Refusal) (k : ℕ) → (B .make s l ≡ made.Refused q k) ↔ SheetRefused s l q k
   pub sheet-unchanged : (s l : List ℕ) (q : Refusal) (k : ℕ) → B .make s l ≡ made.Refused q k → B .made s l ≡ l
@@ -99,7 +101,7 @@ pub record One (B : Calls) : Type 0 where
   pub places : (t f : List ℕ) (p s v : ℕ) → placeNumber (B .place t f p s v) ≡ firstBroken (placeRules t f p s v)
   pub place-unchanged : (t f : List ℕ) (p s v : ℕ) → (firstBroken (placeRules t f p s v) ≡ 0 → ⊥) → B .placed t f p s v ≡ f
   pub compares : (t f : List ℕ) → comparedNumber (B .compare t f) ≡ firstBroken (compareRules t f)
-  pub subframes : (t f : List ℕ) (s : ℕ) → B .compare t f ≡ Differs s → FirstDiffering (view t) f s
+  pub subframe-told : (t f : List ℕ) (s : ℕ) → B .compare t f ≡ Differs s → FirstDiffering (view t) f s
   pub names : (t : List ℕ) (p : ℕ) → B .nameNumber t p ≡ firstBroken (nameRules t p)
   pub unnamed : (t : RefT (List ℕ)) (p : ℕ) → (firstBroken (nameRules (now t) p) ≡ 0 → ⊥) → EmptyPart t (B .name t p)
   pub mnemonics : (t m : List ℕ) → B .nameByNumber t m ≡ firstBroken (mnemonicRules t m)
