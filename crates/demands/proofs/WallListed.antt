@@ -6,6 +6,7 @@ use Prim.Native.Nat.{ℕ}
 use Rattle.bits.specs.Word.{bitAt, field}
 use Rattle.bits.specs.Sign.{signed}
 use Rattle.lay.specs.Bytes.{numAt}
+use Rattle.lay.specs.Quoted.{quotedLines}
 use Rattle.sample.specs.Joining.{partOf, join, width}
 use Rattle.sample.specs.Flat.{sum, before, position}
 use Rattle.model.specs.Samples.{wordCounts, piece, pieces, widthOf}
@@ -20,20 +21,12 @@ abbrev file : List ℕ
 file = 71 ∷ 2 ∷ 5 ∷ 0 ∷ 0 ∷ 0 ∷ 6 ∷ 0 ∷ []
 
 abbrev listing : List ℕ
-listing =
-    -- name,sample,width,raw,value
-    110 ∷ 97 ∷ 109 ∷ 101 ∷ 44 ∷ 115 ∷ 97 ∷ 109 ∷ 112 ∷ 108 ∷ 101 ∷ 44 ∷ 119 ∷ 105 ∷ 100 ∷ 116 ∷ 104 ∷ 44 ∷ 114 ∷ 97 ∷ 119 ∷ 44 ∷ 118 ∷ 97 ∷ 108 ∷ 117 ∷ 101 ∷ 10
-    -- Sync,1,12,583,583
-    ∷ 83 ∷ 121 ∷ 110 ∷ 99 ∷ 44 ∷ 49 ∷ 44 ∷ 49 ∷ 50 ∷ 44 ∷ 53 ∷ 56 ∷ 51 ∷ 44 ∷ 53 ∷ 56 ∷ 51 ∷ 10
-    -- Pitch,1,6,53,-11
-    ∷ 80 ∷ 105 ∷ 116 ∷ 99 ∷ 104 ∷ 44 ∷ 49 ∷ 44 ∷ 54 ∷ 44 ∷ 53 ∷ 51 ∷ 44 ∷ 45 ∷ 49 ∷ 49 ∷ 10
-    ∷ []
+listing = quotedLines ("name,sample,width,raw,value" ∷ "Sync,1,12,583,583" ∷ "Pitch,1,6,53,-11" ∷ [])
 
 pub record WallRows : Type 0 where
   pub words : wordsOf file ≡ 583 ∷ 5 ∷ 0 ∷ 6 ∷ []
   pub rows : headingText ++ (parameterRows wall (wordsOf file) 0 ++ parameterRows wall (wordsOf file) 1) ≡ listing
-  -- refused 19 0
-  pub refused : refusedText 19 0 ≡ 114 ∷ 101 ∷ 102 ∷ 117 ∷ 115 ∷ 101 ∷ 100 ∷ 32 ∷ 49 ∷ 57 ∷ 32 ∷ 48 ∷ 10 ∷ []
+  pub refused : refusedText 19 0 ≡ quotedLines ("refused 19 0" ∷ [])
 
 pub wall-listed : WallRows
 unfolding bitAt field signed numAt partOf join width sum before position wordCounts piece pieces widthOf rawOf widthIs valueOf decimalText valueText rowText sampleRow parameterRows refusedText wordsOf

@@ -6,6 +6,7 @@ use mathlib.Core.List.{List, [], _∷_}
 use Prim.Native.Nat.{ℕ}
 use Rattle.lay.specs.Bytes.{same}
 use Rattle.lay.specs.Below.{every}
+use Rattle.lay.specs.Quoted.{quotedLines}
 use Rattle.ratio.specs.Ratio.{gcdIn, gcd, lowestTerms}
 use Rattle.sample.specs.Clash.{clash, clashAny, twice}
 use Rattle.sample.specs.Joining.{width}
@@ -34,9 +35,8 @@ use Rattle.gather.specs.Book.{spread, samplesOf, componentsOf, allCompon
 use Rattle.gather.specs.Tests.{roomForParameter, roomForSample, roomForComponent, spots, joinedTest, widthTest, apartFrom}
 use Rattle.gather.specs.Ruling.{Accepted, firstBad, identified, run, judgeOf}
 
--- HEADER:, 2.0,A,TypeX,,,001,,,True,,,1,, and RECORD:, 12,4,,,1/1, then NONE
 abbrev noneSheet : List ℕ
-noneSheet = 72 ∷ 69 ∷ 65 ∷ 68 ∷ 69 ∷ 82 ∷ 58 ∷ 10 ∷ 50 ∷ 46 ∷ 48 ∷ 44 ∷ 65 ∷ 44 ∷ 84 ∷ 121 ∷ 112 ∷ 101 ∷ 88 ∷ 44 ∷ 44 ∷ 44 ∷ 48 ∷ 48 ∷ 49 ∷ 44 ∷ 44 ∷ 44 ∷ 84 ∷ 114 ∷ 117 ∷ 101 ∷ 44 ∷ 44 ∷ 44 ∷ 49 ∷ 44 ∷ 44 ∷ 10 ∷ 82 ∷ 69 ∷ 67 ∷ 79 ∷ 82 ∷ 68 ∷ 58 ∷ 10 ∷ 49 ∷ 50 ∷ 44 ∷ 52 ∷ 44 ∷ 44 ∷ 44 ∷ 49 ∷ 47 ∷ 49 ∷ 10 ∷ 78 ∷ 79 ∷ 78 ∷ 69 ∷ 10 ∷ []
+noneSheet = quotedLines ("HEADER:" ∷ "2.0,A,TypeX,,,001,,,True,,,1,," ∷ "RECORD:" ∷ "12,4,,,1/1" ∷ "NONE" ∷ [])
 
 abbrev noneContent : Content
 noneContent = record { sequential = true; subframes = record { bits = 12; words = 4; leading = 0; trailing = 0; numerator = 1; denominator = 1 } ∷ []; parameters = [] }

@@ -1,35 +1,34 @@
--- The sheet on the wall, 25 lines: its bytes as 01 prints it.
+-- The sheet on the wall, 25 lines, as 01 prints it.
 use Prim.Native.Nat.{ℕ}
-use mathlib.Core.List.{List, [], _∷_, _++_}
-
--- a line and its end byte
-abbrev ended : List ℕ → List ℕ → List ℕ
-ended l rest = l ++ (10 ∷ rest)
+use mathlib.Core.List.{List, [], _∷_}
+use Rattle.lay.specs.Quoted.{quotedLines}
 
 abbrev pub wallSheet : List ℕ
 wallSheet =
-    ended (72 ∷ 69 ∷ 65 ∷ 68 ∷ 69 ∷ 82 ∷ 58 ∷ [])
-    (ended (50 ∷ 46 ∷ 48 ∷ 44 ∷ 65 ∷ 44 ∷ 84 ∷ 121 ∷ 112 ∷ 101 ∷ 88 ∷ 44 ∷ 44 ∷ 44 ∷ 48 ∷ 48 ∷ 49 ∷ 44 ∷ 44 ∷ 44 ∷ 84 ∷ 114 ∷ 117 ∷ 101 ∷ 44 ∷ 44 ∷ 44 ∷ 49 ∷ 44 ∷ 44 ∷ [])
-    (ended (82 ∷ 69 ∷ 67 ∷ 79 ∷ 82 ∷ 68 ∷ 58 ∷ [])
-    (ended (49 ∷ 50 ∷ 44 ∷ 52 ∷ 44 ∷ 44 ∷ 44 ∷ 49 ∷ 46 ∷ 48 ∷ [])
-    (ended (80 ∷ 65 ∷ 82 ∷ 65 ∷ 77 ∷ 69 ∷ 84 ∷ 69 ∷ 82 ∷ 58 ∷ [])
-    (ended (83 ∷ 121 ∷ 110 ∷ 99 ∷ 44 ∷ 44 ∷ 44 ∷ 84 ∷ 114 ∷ 117 ∷ 101 ∷ 44 ∷ 44 ∷ 44 ∷ [])
-    (ended (49 ∷ 44 ∷ 49 ∷ 44 ∷ 48 ∷ 44 ∷ 49 ∷ 45 ∷ 49 ∷ 50 ∷ [])
-    (ended (48 ∷ [])
-    (ended []
-    (ended (70 ∷ 97 ∷ 108 ∷ 115 ∷ 101 ∷ 44 ∷ 44 ∷ 44 ∷ 44 ∷ [])
-    (ended (53 ∷ 56 ∷ 51 ∷ 44 ∷ 44 ∷ 44 ∷ [])
-    (ended (44 ∷ 44 ∷ [])
-    (ended []
-    (ended []
-    (ended (80 ∷ 65 ∷ 82 ∷ 65 ∷ 77 ∷ 69 ∷ 84 ∷ 69 ∷ 82 ∷ 58 ∷ [])
-    (ended (80 ∷ 105 ∷ 116 ∷ 99 ∷ 104 ∷ 44 ∷ 80 ∷ 67 ∷ 72 ∷ 44 ∷ 44 ∷ 70 ∷ 97 ∷ 108 ∷ 115 ∷ 101 ∷ 44 ∷ 44 ∷ 44 ∷ [])
-    (ended (49 ∷ 44 ∷ 50 ∷ 44 ∷ 48 ∷ 44 ∷ 49 ∷ 45 ∷ 52 ∷ [])
-    (ended (49 ∷ 44 ∷ 52 ∷ 44 ∷ 48 ∷ 44 ∷ 50 ∷ 45 ∷ 51 ∷ [])
-    (ended (48 ∷ 46 ∷ 53 ∷ [])
-    (ended []
-    (ended (84 ∷ 114 ∷ 117 ∷ 101 ∷ 44 ∷ 44 ∷ 44 ∷ 100 ∷ 101 ∷ 103 ∷ 44 ∷ [])
-    (ended (44 ∷ 44 ∷ 44 ∷ [])
-    (ended (44 ∷ 44 ∷ [])
-    (ended []
-    (ended [] []))))))))))))))))))))))))
+    quotedLines
+    ("HEADER:"
+    ∷ "2.0,A,TypeX,,,001,,,True,,,1,,"
+    ∷ "RECORD:"
+    ∷ "12,4,,,1.0"
+    ∷ "PARAMETER:"
+    ∷ "Sync,,,True,,,"
+    ∷ "1,1,0,1-12"
+    ∷ "0"
+    ∷ ""
+    ∷ "False,,,,"
+    ∷ "583,,,"
+    ∷ ",,"
+    ∷ ""
+    ∷ ""
+    ∷ "PARAMETER:"
+    ∷ "Pitch,PCH,,False,,,"
+    ∷ "1,2,0,1-4"
+    ∷ "1,4,0,2-3"
+    ∷ "0.5"
+    ∷ ""
+    ∷ "True,,,deg,"
+    ∷ ",,,"
+    ∷ ",,"
+    ∷ ""
+    ∷ ""
+    ∷ [])

@@ -5,6 +5,7 @@ use mathlib.Core.List.{List, [], _∷_, _++_}
 use lib.ListN.{length}
 use Rattle.lay.specs.Below.{tab, flat}
 use Rattle.lay.specs.Bytes.{numAt}
+use Rattle.lay.specs.Quoted.{quoted}
 use Rattle.model.specs.Content.{Content, parameter}
 use Rattle.framing.specs.Reading.{rawOf, widthIs, valueOf}
 use Rattle.framing.specs.declared.fit.Fit.{Fit}
@@ -12,9 +13,8 @@ use Rattle.framing.specs.declared.fit.Fit.the-variants.{Fits, WrongCount, TooHi
 use Rattle.listed.specs.Decimals.{decimalText}
 use Rattle.listed.specs.Lines.{endByte, rowText}
 
--- name,sample,width,raw,value
 abbrev pub headingText : List ℕ
-headingText = 110 ∷ 97 ∷ 109 ∷ 101 ∷ 44 ∷ 115 ∷ 97 ∷ 109 ∷ 112 ∷ 108 ∷ 101 ∷ 44 ∷ 119 ∷ 105 ∷ 100 ∷ 116 ∷ 104 ∷ 44 ∷ 114 ∷ 97 ∷ 119 ∷ 44 ∷ 118 ∷ 97 ∷ 108 ∷ 117 ∷ 101 ∷ 10 ∷ []
+headingText = quoted "name,sample,width,raw,value" ++ (endByte ∷ [])
 
 -- the row of sample j of parameter i, both counted from 0; in the row samples count from 1
 unfoldable pub sampleRow : Content → List ℕ → ℕ → ℕ → List ℕ
@@ -27,7 +27,7 @@ parameterRows c f i = flat (length (parameter c i .samples)) (sampleRow c f i)
 -- refused N L
 unfoldable pub refusedText : ℕ → ℕ → List ℕ
 refusedText n l =
-    (114 ∷ 101 ∷ 102 ∷ 117 ∷ 115 ∷ 101 ∷ 100 ∷ []) ++ (32 ∷ (decimalText n ++ (32 ∷ (decimalText l ++ (endByte ∷ [])))))
+    quoted "refused " ++ (decimalText n ++ (quoted " " ++ (decimalText l ++ (endByte ∷ []))))
 
 -- "19 word count of the frame differs", "20 any word of the frame at or above two to its bits"; 0 where it fits
 unfoldable pub fitNumber : Fit → ℕ

@@ -4,10 +4,12 @@ use mathlib.Core.Path.{_≡_, refl, ap, _∙_}
 use mathlib.Core.Bool.{true, false}
 use mathlib.Core.List.{List, [], _∷_, _++_}
 use Prim.Native.Nat.{ℕ, _-_}
+use Prim.Native.String.{String, _++_ as _<>_}
 use lib.ListN.{take, drop}
 use Rattle.model.specs.Content.{Content, Parameter}
 use Rattle.lay.specs.Bytes.{same}
 use Rattle.lay.specs.Below.{every}
+use Rattle.lay.specs.Quoted.{quoted}
 use Rattle.ratio.specs.Ratio.{gcdIn, gcd, lowestTerms}
 use Rattle.sample.specs.Clash.{clash, clashAny, twice}
 use Rattle.sample.specs.Joining.{width}
@@ -16,7 +18,7 @@ use Rattle.text.specs.Refusals.{refusalNumber, first}
 use Rattle.text.specs.Blanks.{trimStart, trimEnd, trim}
 use Rattle.text.specs.Parts.{indexOf, countOf, holds, upTo, past}
 use Rattle.text.specs.Fields.{blankLine, fieldCount, pieceOf, fieldOf}
-use Rattle.text.specs.Keywords.{recordWord, noneWord, parameterWord, keywordOf}
+use Rattle.text.specs.Keywords.{keywordOf}
 use Rattle.lines.specs.Line.{allClean}
 use Rattle.lines.specs.Lines.{linesOf}
 use Rattle.lines.specs.Order.{lineJudged}
@@ -50,33 +52,33 @@ abbrev wallLines : List (List ℕ)
 wallLines = firstLines 25 (linesOf wallSheet)
 
 -- line k, counted from 1, is another; one more line before line k
-abbrev changed : ℕ → List ℕ → List (List ℕ) → List (List ℕ)
-changed k l ls = take (k - 1) ls ++ (l ∷ drop k ls)
+abbrev changed : ℕ → String → List (List ℕ) → List (List ℕ)
+changed k l ls = take (k - 1) ls ++ (quoted l ∷ drop k ls)
 
-abbrev added : ℕ → List ℕ → List (List ℕ) → List (List ℕ)
-added k l ls = take (k - 1) ls ++ (l ∷ drop (k - 1) ls)
+abbrev added : ℕ → String → List (List ℕ) → List (List ℕ)
+added k l ls = take (k - 1) ls ++ (quoted l ∷ drop (k - 1) ls)
 
 -- the wall sheet with that change
-abbrev changing : ℕ → List ℕ → List ℕ
+abbrev changing : ℕ → String → List ℕ
 changing k l = sheetOf (changed k l wallLines)
 
-abbrev adding : ℕ → List ℕ → List ℕ
+abbrev adding : ℕ → String → List ℕ
 adding k l = sheetOf (added k l wallLines)
 
 -- 12,4,,,1/1 says the same as 12,4,,,1.0
-abbrev pairLine : List ℕ
-pairLine = 49 ∷ 50 ∷ 44 ∷ 52 ∷ 44 ∷ 44 ∷ 44 ∷ 49 ∷ 47 ∷ 49 ∷ []
+abbrev pairLine : String
+pairLine = "12,4,,,1/1"
 
 -- HEADER: and RECORD: with their lines, then NONE
 abbrev noneLines : List (List ℕ)
-noneLines = changed 4 pairLine (take 4 wallLines) ++ (noneWord ∷ [])
+noneLines = changed 4 pairLine (take 4 wallLines) ++ (quoted "NONE" ∷ [])
 
 abbrev noneContent : Content
 noneContent = record { sequential = true; subframes = wall .subframes; parameters = [] }
 
 -- the same with 12,4,,, and a duration in seconds, and what it says
-abbrev lastingLines : List ℕ → List (List ℕ)
-lastingLines d = changed 4 (49 ∷ 50 ∷ 44 ∷ 52 ∷ 44 ∷ 44 ∷ 44 ∷ d) noneLines
+abbrev lastingLines : String → List (List ℕ)
+lastingLines d = changed 4 ("12,4,,," <> d) noneLines
 
 abbrev lastingContent : ℕ → ℕ → Content
 lastingContent top bottom =
@@ -86,19 +88,19 @@ lastingContent top bottom =
       parameters = [];
     }
 
--- 2.0,A,TypeX,,,001,,,True,,,S,, by the digit S
-abbrev headerFor : ℕ → List ℕ
-headerFor s = 50 ∷ 46 ∷ 48 ∷ 44 ∷ 65 ∷ 44 ∷ 84 ∷ 121 ∷ 112 ∷ 101 ∷ 88 ∷ 44 ∷ 44 ∷ 44 ∷ 48 ∷ 48 ∷ 49 ∷ 44 ∷ 44 ∷ 44 ∷ 84 ∷ 114 ∷ 117 ∷ 101 ∷ 44 ∷ 44 ∷ 44 ∷ s ∷ 44 ∷ 44 ∷ []
+-- the header line by its subframe count
+abbrev headerFor : String → String
+headerFor s = "2.0,A,TypeX,,,001,,,True,,," <> (s <> ",,")
 
--- 1,1,0,B by the digit B
-abbrev oneBit : ℕ → List ℕ
-oneBit d = 49 ∷ 44 ∷ 49 ∷ 44 ∷ 48 ∷ 44 ∷ d ∷ []
+-- one bit of word 1
+abbrev oneBit : String → List ℕ
+oneBit d = quoted ("1,1,0," <> d)
 
 -- Sync's PARAMETER: and 7 fields, then eight components
 abbrev eightComponents : List (List ℕ)
 eightComponents =
     take 6 wallLines
-    ++ (oneBit 49 ∷ oneBit 50 ∷ oneBit 51 ∷ oneBit 52 ∷ oneBit 53 ∷ oneBit 54 ∷ oneBit 55 ∷ oneBit 56 ∷ [])
+    ++ (oneBit "1" ∷ oneBit "2" ∷ oneBit "3" ∷ oneBit "4" ∷ oneBit "5" ∷ oneBit "6" ∷ oneBit "7" ∷ oneBit "8" ∷ [])
 
 -- Sync at bit 12 alone, with the value 1
 abbrev syncAtTwelve : Parameter
@@ -147,14 +149,14 @@ ends =
     -- two bytes of 200 and no end
     ∷ rules (200 ∷ 200 ∷ []) (refuses 4 1)
     -- HEADER: and byte 13
-    ∷ rules (changing 1 (72 ∷ 69 ∷ 65 ∷ 68 ∷ 69 ∷ 82 ∷ 58 ∷ 13 ∷ [])) (refuses 2 1)
+    ∷ rules (changing 1 "HEADER:\r") (refuses 2 1)
     -- NONE; and with blanks round HEADER:
     ∷ rules (sheetOf noneLines) (takes noneContent)
-    ∷ rules (sheetOf (changed 1 (32 ∷ 72 ∷ 69 ∷ 65 ∷ 68 ∷ 69 ∷ 82 ∷ 58 ∷ 9 ∷ []) noneLines)) (takes noneContent)
+    ∷ rules (sheetOf (changed 1 " HEADER:\t" noneLines)) (takes noneContent)
     -- NONE, and x without an end byte
-    ∷ rules (sheetOf noneLines ++ (120 ∷ [])) (refuses 4 6)
+    ∷ rules (sheetOf noneLines ++ quoted "x") (refuses 4 6)
     -- NONE, and a line x
-    ∷ rules (sheetOf (noneLines ++ ((120 ∷ []) ∷ []))) (refuses 5 6)
+    ∷ rules (sheetOf (noneLines ++ (quoted "x" ∷ []))) (refuses 5 6)
     -- NONE, and a blank line
     ∷ rules (sheetOf (noneLines ++ ([] ∷ []))) (refuses 5 6)
     -- NONE, and a line of byte 200
@@ -165,73 +167,73 @@ ends =
 abbrev orders : List Case
 orders =
     -- no version, and version 2.00
-    rules (changing 2 (44 ∷ 65 ∷ 44 ∷ 84 ∷ 121 ∷ 112 ∷ 101 ∷ 88 ∷ 44 ∷ 44 ∷ 44 ∷ 48 ∷ 48 ∷ 49 ∷ 44 ∷ 44 ∷ 44 ∷ 84 ∷ 114 ∷ 117 ∷ 101 ∷ 44 ∷ 44 ∷ 44 ∷ 49 ∷ 44 ∷ 44 ∷ [])) (refuses 8 2)
-    ∷ rules (changing 2 (50 ∷ 46 ∷ 48 ∷ 48 ∷ 44 ∷ 65 ∷ 44 ∷ 84 ∷ 121 ∷ 112 ∷ 101 ∷ 88 ∷ 44 ∷ 44 ∷ 44 ∷ 48 ∷ 48 ∷ 49 ∷ 44 ∷ 44 ∷ 44 ∷ 84 ∷ 114 ∷ 117 ∷ 101 ∷ 44 ∷ 44 ∷ 44 ∷ 49 ∷ 44 ∷ 44 ∷ [])) (refuses 9 2)
+    rules (changing 2 ",A,TypeX,,,001,,,True,,,1,,") (refuses 8 2)
+    ∷ rules (changing 2 "2.00,A,TypeX,,,001,,,True,,,1,,") (refuses 9 2)
     -- a second RECORD: for one subframe
-    ∷ rules (adding 5 recordWord) (refuses 5 5)
+    ∷ rules (adding 5 "RECORD:") (refuses 5 5)
     -- two pairs for three subframes, then PARAMETER:
-    ∷ rules (sheetOf (changed 2 (headerFor 51) (take 4 wallLines ++ drop 2 wallLines))) (refuses 5 7)
+    ∷ rules (sheetOf (changed 2 (headerFor "3") (take 4 wallLines ++ drop 2 wallLines))) (refuses 5 7)
     -- a third blank line after a parameter
-    ∷ rules (adding 15 []) (refuses 5 15)
+    ∷ rules (adding 15 "") (refuses 5 15)
     -- PARAMETER: where the time is due, a blank line there, and two fields
-    ∷ rules (changing 8 parameterWord) (refuses 6 8)
-    ∷ rules (changing 8 []) (refuses 5 8)
-    ∷ rules (changing 8 (44 ∷ [])) (refuses 5 8)
+    ∷ rules (changing 8 "PARAMETER:") (refuses 6 8)
+    ∷ rules (changing 8 "") (refuses 5 8)
+    ∷ rules (changing 8 ",") (refuses 5 8)
     -- two fields after the time
-    ∷ rules (changing 9 (44 ∷ [])) (refuses 10 9)
+    ∷ rules (changing 9 ",") (refuses 10 9)
     -- 1,x,0,0 and 9,x,0,1 and 1,1,1,0
-    ∷ rules (changing 7 (49 ∷ 44 ∷ 120 ∷ 44 ∷ 48 ∷ 44 ∷ 48 ∷ [])) (refuses 6 7)
-    ∷ rules (changing 7 (57 ∷ 44 ∷ 120 ∷ 44 ∷ 48 ∷ 44 ∷ 49 ∷ [])) (refuses 13 7)
-    ∷ rules (changing 7 (49 ∷ 44 ∷ 49 ∷ 44 ∷ 49 ∷ 44 ∷ 48 ∷ [])) (refuses 10 7)
+    ∷ rules (changing 7 "1,x,0,0") (refuses 6 7)
+    ∷ rules (changing 7 "9,x,0,1") (refuses 13 7)
+    ∷ rules (changing 7 "1,1,1,0") (refuses 10 7)
     ∷ []
 
 -- bits, and 12 and 14
 abbrev pub samples : List Case
 samples =
     -- bits 13, 0 and 4-1
-    rules (changing 7 (49 ∷ 44 ∷ 49 ∷ 44 ∷ 48 ∷ 44 ∷ 49 ∷ 51 ∷ [])) (refuses 13 7)
-    ∷ rules (changing 7 (49 ∷ 44 ∷ 49 ∷ 44 ∷ 48 ∷ 44 ∷ 48 ∷ [])) (refuses 11 7)
-    ∷ rules (changing 7 (49 ∷ 44 ∷ 49 ∷ 44 ∷ 48 ∷ 44 ∷ 52 ∷ 45 ∷ 49 ∷ [])) (refuses 11 7)
+    rules (changing 7 "1,1,0,13") (refuses 13 7)
+    ∷ rules (changing 7 "1,1,0,0") (refuses 11 7)
+    ∷ rules (changing 7 "1,1,0,4-1") (refuses 11 7)
     -- bits 12: 583 does not fit one bit; with Sync alone and the value 1
-    ∷ rules (changing 7 (49 ∷ 44 ∷ 49 ∷ 44 ∷ 48 ∷ 44 ∷ 49 ∷ 50 ∷ [])) (refuses 16 5)
-    ∷ rules (sheetOf (changed 11 (49 ∷ 44 ∷ 44 ∷ 44 ∷ []) (changed 7 (49 ∷ 44 ∷ 49 ∷ 44 ∷ 48 ∷ 44 ∷ 49 ∷ 50 ∷ []) (changed 4 pairLine (take 14 wallLines))))) (takes twelveContent)
+    ∷ rules (changing 7 "1,1,0,12") (refuses 16 5)
+    ∷ rules (sheetOf (changed 11 "1,,," (changed 7 "1,1,0,12" (changed 4 pairLine (take 14 wallLines))))) (takes twelveContent)
     -- a ninth component, misspelt, and one of three fields
-    ∷ rules (sheetOf (eightComponents ++ ((120 ∷ 44 ∷ 121 ∷ 44 ∷ 122 ∷ 44 ∷ 119 ∷ []) ∷ []))) (refuses 12 15)
-    ∷ rules (sheetOf (eightComponents ++ ((120 ∷ 44 ∷ 121 ∷ 44 ∷ 122 ∷ []) ∷ []))) (refuses 5 15)
+    ∷ rules (sheetOf (eightComponents ++ (quoted "x,y,z,w" ∷ []))) (refuses 12 15)
+    ∷ rules (sheetOf (eightComponents ++ (quoted "x,y,z" ∷ []))) (refuses 5 15)
     -- 1,1,0,12 again in one sample
-    ∷ rules (adding 8 (49 ∷ 44 ∷ 49 ∷ 44 ∷ 48 ∷ 44 ∷ 49 ∷ 50 ∷ [])) (refuses 14 8)
+    ∷ rules (adding 8 "1,1,0,12") (refuses 14 8)
     -- twelve bits each of words 1, 2 and 3
-    ∷ rules (sheetOf (added 8 (49 ∷ 44 ∷ 50 ∷ 44 ∷ 48 ∷ 44 ∷ 49 ∷ 45 ∷ 49 ∷ 50 ∷ []) (added 8 (49 ∷ 44 ∷ 51 ∷ 44 ∷ 48 ∷ 44 ∷ 49 ∷ 45 ∷ 49 ∷ 50 ∷ []) wallLines))) (refuses 14 9)
+    ∷ rules (sheetOf (added 8 "1,2,0,1-12" (added 8 "1,3,0,1-12" wallLines))) (refuses 14 9)
     -- a second sample of one bit, after one of six
-    ∷ rules (sheetOf (added 20 (49 ∷ 44 ∷ 51 ∷ 44 ∷ 48 ∷ 44 ∷ 49 ∷ []) (added 20 (48 ∷ []) wallLines))) (refuses 14 21)
+    ∷ rules (sheetOf (added 20 "1,3,0,1" (added 20 "0" wallLines))) (refuses 14 21)
     ∷ []
 
 -- 15 and 16
 abbrev pub identifiers : List Case
 identifiers =
     -- two parameters named Sync; and cut after that line
-    rules (changing 16 (83 ∷ 121 ∷ 110 ∷ 99 ∷ 44 ∷ 80 ∷ 67 ∷ 72 ∷ 44 ∷ 44 ∷ 70 ∷ 97 ∷ 108 ∷ 115 ∷ 101 ∷ 44 ∷ 44 ∷ 44 ∷ [])) (refuses 15 16)
-    ∷ rules (sheetOf (take 16 (changed 16 (83 ∷ 121 ∷ 110 ∷ 99 ∷ 44 ∷ 80 ∷ 67 ∷ 72 ∷ 44 ∷ 44 ∷ 70 ∷ 97 ∷ 108 ∷ 115 ∷ 101 ∷ 44 ∷ 44 ∷ 44 ∷ []) wallLines))) (refuses 15 16)
+    rules (changing 16 "Sync,PCH,,False,,,") (refuses 15 16)
+    ∷ rules (sheetOf (take 16 (changed 16 "Sync,PCH,,False,,," wallLines))) (refuses 15 16)
     -- identifier value 4096 in 12 bits
-    ∷ rules (changing 11 (52 ∷ 48 ∷ 57 ∷ 54 ∷ 44 ∷ 44 ∷ 44 ∷ [])) (refuses 16 5)
+    ∷ rules (changing 11 "4096,,,") (refuses 16 5)
     -- both of these
-    ∷ rules (sheetOf (changed 11 (52 ∷ 48 ∷ 57 ∷ 54 ∷ 44 ∷ 44 ∷ 44 ∷ []) (changed 16 (83 ∷ 121 ∷ 110 ∷ 99 ∷ 44 ∷ 80 ∷ 67 ∷ 72 ∷ 44 ∷ 44 ∷ 70 ∷ 97 ∷ 108 ∷ 115 ∷ 101 ∷ 44 ∷ 44 ∷ 44 ∷ []) wallLines))) (refuses 15 16)
+    ∷ rules (sheetOf (changed 11 "4096,,," (changed 16 "Sync,PCH,,False,,," wallLines))) (refuses 15 16)
     -- Pitch an identifier too, unsigned, of value 5, in the same subframe
-    ∷ rules (sheetOf (changed 16 (80 ∷ 105 ∷ 116 ∷ 99 ∷ 104 ∷ 44 ∷ 80 ∷ 67 ∷ 72 ∷ 44 ∷ 44 ∷ 84 ∷ 114 ∷ 117 ∷ 101 ∷ 44 ∷ 44 ∷ 44 ∷ []) (changed 21 (70 ∷ 97 ∷ 108 ∷ 115 ∷ 101 ∷ 44 ∷ 44 ∷ 44 ∷ 100 ∷ 101 ∷ 103 ∷ 44 ∷ []) (changed 22 (53 ∷ 44 ∷ 44 ∷ 44 ∷ []) wallLines)))) (refuses 16 15)
+    ∷ rules (sheetOf (changed 16 "Pitch,PCH,,True,,," (changed 21 "False,,,deg," (changed 22 "5,,," wallLines)))) (refuses 16 15)
     -- Pitch alone
     ∷ rules (sheetOf (take 4 wallLines ++ drop 14 wallLines)) (refuses 16 0)
     -- two subframes and one identifier
-    ∷ rules (changing 2 (headerFor 50)) (refuses 16 0)
+    ∷ rules (changing 2 (headerFor "2")) (refuses 16 0)
     ∷ []
 
 -- seconds
 abbrev pub durations : List Case
 durations =
     -- 2 1/6 and 0.25
-    rules (sheetOf (lastingLines (50 ∷ 32 ∷ 49 ∷ 47 ∷ 54 ∷ []))) (takes (lastingContent 13 6))
-    ∷ rules (sheetOf (lastingLines (48 ∷ 46 ∷ 50 ∷ 53 ∷ []))) (takes (lastingContent 1 4))
+    rules (sheetOf (lastingLines "2 1/6")) (takes (lastingContent 13 6))
+    ∷ rules (sheetOf (lastingLines "0.25")) (takes (lastingContent 1 4))
     -- 1/0
-    ∷ rules (sheetOf (lastingLines (49 ∷ 47 ∷ 48 ∷ []))) (refuses 11 4)
+    ∷ rules (sheetOf (lastingLines "1/0")) (refuses 11 4)
     ∷ []
 
 abbrev pub cases : List Case

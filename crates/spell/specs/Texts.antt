@@ -7,6 +7,7 @@ use mathlib.Core.Bool.{Bool, true, not, _&&_}
 use lib.ListN.{length}
 use lib.Dec.{ltb}
 use Rattle.lay.specs.Bytes.{same}
+use Rattle.lay.specs.Quoted.{quoted}
 use Rattle.text.specs.Blanks.{tab, isEmpty}
 use Rattle.text.specs.Parts.{holds}
 use Rattle.text.specs.Refusals.{when, first}
@@ -27,11 +28,10 @@ textJudged most mandatory f =
     ∷ when (holds tab f) Misspelt
     ∷ [])
 
--- 2.0
-abbrev pub version : List ℕ
-version = 50 ∷ 46 ∷ 48 ∷ []
-
 -- "Version (must be `2.0`)"
+abbrev pub version : List ℕ
+version = quoted "2.0"
+
 unfoldable pub versionJudged : List ℕ → Judged
 versionJudged f = first (textJudged longestText true f ∷ when (not (same f version)) OtherVersion ∷ [])
 

@@ -3,6 +3,7 @@ use Prim.Native.Nat.{ℕ}
 use mathlib.Core.List.{List, [], _∷_}
 use mathlib.Core.Bool.{Bool, not, _||_}
 use Rattle.lay.specs.Bytes.{same}
+use Rattle.lay.specs.Quoted.{quoted}
 use Rattle.text.specs.Blanks.{isEmpty}
 use Rattle.text.specs.Refusals.{when, first}
 use Rattle.text.specs.declared.refusal.Judged.{Judged}
@@ -10,16 +11,14 @@ use Rattle.text.specs.declared.refusal.Refusal.the-variants.{FieldEmpty, Misspe
 use Rattle.spell.specs.Answers.{saysTruth}
 use Rattle.spell.specs.declared.answers.Truth.{Truth}
 
--- True, true, TRUE
 unfoldable pub saysTrue : List ℕ → Bool
 saysTrue f =
-    same f (84 ∷ 114 ∷ 117 ∷ 101 ∷ []) || (same f (116 ∷ 114 ∷ 117 ∷ 101 ∷ []) || same f (84 ∷ 82 ∷ 85 ∷ 69 ∷ []))
+    same f (quoted "True") || (same f (quoted "true") || same f (quoted "TRUE"))
 
--- False, false, FALSE
 unfoldable pub saysFalse : List ℕ → Bool
 saysFalse f =
-    same f (70 ∷ 97 ∷ 108 ∷ 115 ∷ 101 ∷ [])
-    || (same f (102 ∷ 97 ∷ 108 ∷ 115 ∷ 101 ∷ []) || same f (70 ∷ 65 ∷ 76 ∷ 83 ∷ 69 ∷ []))
+    same f (quoted "False")
+    || (same f (quoted "false") || same f (quoted "FALSE"))
 
 unfoldable pub truthJudged : List ℕ → Judged
 truthJudged f = first (when (isEmpty f) FieldEmpty ∷ when (not (saysTrue f || saysFalse f)) Misspelt ∷ [])
