@@ -4,6 +4,7 @@ use Prim.Native.Nat.{ℕ, zero, suc, _+_, _/_, _%_}
 use mathlib.Core.Bool.{true, false, cond}
 use mathlib.Core.List.{List, [], _∷_, _++_}
 use lib.Dec.{eqb, ltb}
+use Rattle.lay.specs.Quoted.{quoted}
 use Rattle.text.specs.Blanks.{space}
 use Rattle.text.specs.Fields.{comma}
 use Rattle.lines.specs.Line.{endByte}
@@ -46,9 +47,8 @@ abbrev pub plainItem : Item → List ℕ
 plainItem (exactly t) = t
 plainItem text = []
 plainItem someText = hyphen ∷ []
--- True, False
-plainItem (truth true) = 84 ∷ 114 ∷ 117 ∷ 101 ∷ []
-plainItem (truth false) = 70 ∷ 97 ∷ 108 ∷ 115 ∷ 101 ∷ []
+plainItem (truth true) = quoted "True"
+plainItem (truth false) = quoted "False"
 plainItem truthOrNone = []
 plainItem (integer n v) = decimal v
 plainItem (margin v) = decimal v
@@ -56,7 +56,7 @@ plainItem (time v) = pointed v
 plainItem delay = []
 plainItem (bits a b) = decimal a ++ (hyphen ∷ decimal b)
 plainItem bitsOrNone = []
-plainItem label = 48 ∷ []
+plainItem label = quoted "0"
 plainItem (seconds n d) = plainSeconds n d
 
 -- ---- lines

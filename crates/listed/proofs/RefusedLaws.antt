@@ -6,13 +6,14 @@ use native.Mathlib.Omega.{arith}
 use lib.ListN.{length}
 use Rattle.io.specs.Counts.{Counts}
 use Rattle.lay.specs.Bytes.{put}
+use Rattle.lay.specs.Quoted.{quoted}
 use Rattle.listed.specs.Decimals.{decimalText}
 use Rattle.listed.specs.Lines.{endByte}
 use Rattle.listed.specs.Listing.{refusedText}
 use Rattle.listed.proofs.LineLaws.{Step, Room, part-step, room-start, room-step, field-short, front-counts}
 
 abbrev refused : List ℕ
-refused = 114 ∷ 101 ∷ 102 ∷ 117 ∷ 115 ∷ 101 ∷ 100 ∷ []
+refused = quoted "refused"
 
 module _ (out : List ℕ) (h : 50 ≤ length out) (m1 : List ℕ) (a : ℕ) (s1 : Step out 0 (refused ++ (32 ∷ [])) a m1) where
   room-1 : Room out a m1 8

@@ -6,6 +6,7 @@ use mathlib.Core.Logic.{_⊎_}
 use mathlib.Core.Bool.{Bool, true, false}
 use mathlib.Core.List.{List, [], _∷_, _++_}
 use lib.ListN.{length, getD}
+use Rattle.lay.specs.Quoted.{quoted}
 use Rattle.text.specs.Blanks.{space, tab}
 use Rattle.spell.specs.Digits.{number, places}
 use Rattle.spell.specs.Decimals.{point, million}
@@ -149,19 +150,17 @@ pub record IsText (n : ℕ) (f : List ℕ) : Type 0 where
 
 -- ---- truths
 
--- True, true, TRUE
 abbrev pub IsTrue : List ℕ → Type 0
 IsTrue f =
-    (f ≡ 84 ∷ 114 ∷ 117 ∷ 101 ∷ [])
-    ⊎ ((f ≡ 116 ∷ 114 ∷ 117 ∷ 101 ∷ [])
-    ⊎ (f ≡ 84 ∷ 82 ∷ 85 ∷ 69 ∷ []))
+    (f ≡ quoted "True")
+    ⊎ ((f ≡ quoted "true")
+    ⊎ (f ≡ quoted "TRUE"))
 
--- False, false, FALSE
 abbrev pub IsFalse : List ℕ → Type 0
 IsFalse f =
-    (f ≡ 70 ∷ 97 ∷ 108 ∷ 115 ∷ 101 ∷ [])
-    ⊎ ((f ≡ 102 ∷ 97 ∷ 108 ∷ 115 ∷ 101 ∷ [])
-    ⊎ (f ≡ 70 ∷ 65 ∷ 76 ∷ 83 ∷ 69 ∷ []))
+    (f ≡ quoted "False")
+    ⊎ ((f ≡ quoted "false")
+    ⊎ (f ≡ quoted "FALSE"))
 
 abbrev pub IsTruth : List ℕ → Bool → Type 0
 IsTruth f true = IsTrue f
