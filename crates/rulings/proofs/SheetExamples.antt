@@ -185,6 +185,11 @@ orders =
     ∷ rules (changing 7 "1,x,0,0") (refuses 6 7)
     ∷ rules (changing 7 "9,x,0,1") (refuses 13 7)
     ∷ rules (changing 7 "1,1,1,0") (refuses 10 7)
+    -- two faults in one field: 7 before 6, 6 before 9, 6 before 11, 11 before 13
+    ∷ rules (changing 6 "A name of sixty-five bytes with a tab inside is longer than the\t.,,,True,,,") (refuses 7 6)
+    ∷ rules (changing 2 "2.\t0,A,TypeX,,,001,,,True,,,1,,") (refuses 6 2)
+    ∷ rules (changing 4 "12,1000000,,,1.0") (refuses 6 4)
+    ∷ rules (changing 7 "1,1,0,0-13") (refuses 11 7)
     ∷ []
 
 -- bits, and 12 and 14
@@ -256,7 +261,7 @@ ends-hold = (joined-taken, (refl, (refl, (refl, (refl, (refl, (refl, (refl, (ref
 
 orders-hold : AllHold orders
 unfolding same every gcdIn gcd lowestTerms clash clashAny twice width before position first trimStart trimEnd trim indexOf countOf holds upTo past blankLine fieldCount pieceOf fieldOf keywordOf allClean linesOf lineJudged allDigits digitsUpTo placeOf places number isMarked textJudged versionJudged emptyJudged saysTrue saysFalse truthJudged truthOf truthOrEmptyJudged integerJudged integerOf declaredJudged declaredOf overlapJudged marginOf labelJudged labelOf millionths decimalJudged decimalOf delayJudged lowBit highBit bitsJudged bitsOf componentBitsJudged componentBitsOf sourceBitsJudged isFraction isSeconds fractionOf badFraction topOf bottomOf secondsJudged secondsOf wordForm countForm eitherForm openingForm afterSampleForm formOf pairIndex declaredFor rangeJudged wordCounts piece pieces widthOf namedApart identifierOk identifiedApart identifies taken spread samplesOf componentsOf allComponentsOf wordsOf bitsOfPairs roomForParameter roomForSample roomForComponent spots joinedTest widthTest apartFrom firstBad identified run judgeOf
-orders-hold = (refl, (refl, (refl, (refl, (refl, (refl, (refl, (refl, (refl, (refl, (refl, (refl, tt))))))))))))
+orders-hold = (refl, (refl, (refl, (refl, (refl, (refl, (refl, (refl, (refl, (refl, (refl, (refl, (refl, (refl, (refl, (refl, tt))))))))))))))))
 
 samples-hold : AllHold samples
 unfolding same every gcdIn gcd lowestTerms clash clashAny twice width before position first trimStart trimEnd trim indexOf countOf holds upTo past blankLine fieldCount pieceOf fieldOf keywordOf allClean linesOf lineJudged allDigits digitsUpTo placeOf places number isMarked textJudged versionJudged emptyJudged saysTrue saysFalse truthJudged truthOf truthOrEmptyJudged integerJudged integerOf declaredJudged declaredOf overlapJudged marginOf labelJudged labelOf millionths decimalJudged decimalOf delayJudged lowBit highBit bitsJudged bitsOf componentBitsJudged componentBitsOf sourceBitsJudged isFraction isSeconds fractionOf badFraction topOf bottomOf secondsJudged secondsOf wordForm countForm eitherForm openingForm afterSampleForm formOf pairIndex declaredFor rangeJudged wordCounts piece pieces widthOf namedApart identifierOk identifiedApart identifies taken spread samplesOf componentsOf allComponentsOf wordsOf bitsOfPairs roomForParameter roomForSample roomForComponent spots joinedTest widthTest apartFrom firstBad identified run judgeOf
