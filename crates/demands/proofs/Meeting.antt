@@ -2,7 +2,7 @@
 use Prim.Native.Nat.{ℕ, _-_, _^_, _≤_, _<_}
 use native.Mathlib.Omega.{arith}
 use mathlib.Core.Bool.{Bool, true, false, cond}
-use mathlib.Core.Path.{_≡_, refl, sym, ap, _∙_}
+use mathlib.Core.Path.{_≡_, refl, sym, ap, subst, _∙_}
 use mathlib.Core.List.{List}
 use mathlib.Core.Logic.{_⊎_, inl, inr}
 use denote.Ref.{now}
@@ -11,6 +11,7 @@ use lib.Dec.{ltb}
 use lib.ListN.{length, take, drop}
 use Rattle.text.specs.declared.refusal.Refusal.{Refusal}
 use Rattle.text.specs.declared.refusal.Refusal.the-variants.{TableTooSmall}
+use Rattle.lay.specs.Bytes.{AreBytes}
 use Rattle.sample.specs.Component.{Place, Named}
 use Rattle.sample.specs.Joining.{join, width}
 use Rattle.sample.specs.Source.{bitIn}
@@ -21,7 +22,9 @@ use Rattle.model.specs.Samples.{widthOf}
 use Rattle.model.specs.View.{view}
 use Rattle.model.specs.Write.{write}
 use Rattle.model.proofs.Views.{parameters-view, samples-are}
+use Rattle.model.proofs.WrittenBytes.{write-bytes}
 use Rattle.gather.specs.Ruling.{Ruling, Accepted, Refused, judgeOf}
+use Rattle.gather.proofs.AcceptedLawful.{accepted-lawful}
 use Rattle.grammar.proofs.Accepted.{accepted-says}
 use Rattle.grammar.proofs.Accepts.{says-accepted}
 use Rattle.maker.specs.Made.{madeOf, leftOf}
@@ -190,12 +193,19 @@ module _ (B : Calls) (K : Kept B) where
 
   -- ---- 2
 
+  left-bytes : (s l : List ℕ) (n : ℕ) → B .make s l ≡ made.Length n → AreBytes (take n (B .made s l))
+  left-bytes s l n h =
+      let t = made-table s l n (sym (K .makes s l .0) ∙ h) in
+      let e : take n (B .made s l) ≡ write 1 (t .content) = ap (take n) (K .makes s l .1) ∙ t .table in
+      subst (λ (x : List ℕ). AreBytes x) (sym e) (write-bytes 1 (t .content) (accepted-lawful s (t .content) (t .accepted)))
+
   sheet : SheetTaken B
   sheet =
       record {
         taken = λ s l c h. taken-exactly s l c (says-accepted s c h);
         only = λ s l n h. let t = made-table s l n (sym (K .makes s l .0) ∙ h) in (t .content, accepted-says s (t .content) (t .accepted));
         says = λ s l n c h w. says-so s l n c h (says-accepted s c w);
+        bytes = λ s l n h. left-bytes s l n h;
         later = λ s l n h. ap (drop n) (K .makes s l .1) ∙ made-table s l n (sym (K .makes s l .0) ∙ h) .later;
       }
 

@@ -1,5 +1,5 @@
--- The demands leave no choice: whoever meets them, and leaves bytes where a table is made, keeps every promise of the bench. So
--- no other bench, good or bad, meets them. Assumes nothing.
+-- The demands leave no choice: whoever meets them keeps every promise of the bench. So no other bench, good or bad, meets them.
+-- Assumes nothing.
 use Prim.Native.Nat.{ℕ, _-_, _^_, _≤_, _<_}
 use native.Mathlib.Omega.{arith}
 use native.Mathlib.Decide.{decLe, decLt, ℕ-discrete}
@@ -11,7 +11,6 @@ use denote.Ref.{RefT, now}
 use borrow.Author.Tests.{le-leb, lt-leb, ltb-true}
 use lib.IntN.{ℤ}
 use lib.ListN.{length, take, take-append-drop}
-use Rattle.lay.specs.Bytes.{AreBytes}
 use Rattle.sample.specs.Component.{Place, Named}
 use Rattle.sample.specs.declared.component.Component.{Component}
 use Rattle.sample.specs.Joining.{join, width}
@@ -24,14 +23,11 @@ use Rattle.model.specs.Frame.{meets}
 use Rattle.model.specs.View.{view}
 use Rattle.model.specs.Write.{write}
 use Rattle.model.proofs.Statements.{accepted-writing}
-use Rattle.model.proofs.WrittenBytes.{write-bytes}
 use Rattle.gather.specs.Ruling.{Ruling, Accepted, Refused, judgeOf}
-use Rattle.gather.proofs.AcceptedLawful.{accepted-lawful}
 use Rattle.grammar.specs.Says.{Says}
 use Rattle.grammar.proofs.Accepted.{accepted-says}
 use Rattle.maker.specs.Made.{madeOf, leftOf}
 use Rattle.maker.specs.declared.make.Made.the-variants as made
-use Rattle.maker.proofs.MadeTables.{made-table}
 use Rattle.bench.specs.Promises.{Makes, Names, NamesBy}
 use Rattle.table.specs.Answers.{NameOf, checkOf, askedNumber, askedMnemonic, askedRefusal, nameAnswered, placeAnswered}
 use Rattle.table.specs.declared.naming.Asked.{Asked}
@@ -49,10 +45,6 @@ use Rattle.demands.proofs.Told.{same-reading, same-placing, same-checke
 use Rattle.demands.proofs.Unbroken.{Readable, readable, long, place-readable}
 use Rattle.demands.proofs.Meeting.{accepts-of, check-of}
 use Rattle.demands.proofs.Ours.{ours, ours-meets}
-
--- what a bench leaves where it makes a table are bytes: in a slice of bytes nothing else can stand
-abbrev pub LeavesBytes : Calls → Type 0
-LeavesBytes B = (s l : List ℕ) (n : ℕ) → B .make s l ≡ made.Length n → AreBytes (take n (B .made s l))
 
 -- frames of one length that join alike, and agree at every bit that no component names, are one
 one-frame : (g h : List ℕ) (cs : List Component) → length g ≡ length h → join g cs ≡ join h cs
@@ -169,7 +161,7 @@ module _ (B : Calls) (D : Demands B) where
 
   -- ---- making
 
-  module _ (Y : LeavesBytes B) (s l : List ℕ) where
+  module _ (s l : List ℕ) where
     abbrev AsPromised : Ruling → Type 0
     AsPromised r = (B .make s l ≡ madeOf r (length l)) × (B .made s l ≡ leftOf r l)
 
@@ -178,7 +170,7 @@ module _ (B : Calls) (D : Demands B) where
       enough h =
           let n = length (write 1 c) in
           let e = D .two .sheet .taken s l c w h in
-          let a = accepted-writing (take n (B .made s l)) (Y s l n e) (passing e) .1 in
+          let a = accepted-writing (take n (B .made s l)) (D .two .sheet .bytes s l n e) (passing e) .1 in
           let t : take n (B .made s l) ≡ write 1 c = sym a ∙ ap (write 1) (D .two .sheet .says s l n c e w) in (
             e ∙ rw (le-leb n (length l) h),
             sym (take-append-drop n (B .made s l)) ∙ (rw (t, D .two .sheet .later s l n e, le-leb n (length l) h)),
@@ -203,10 +195,10 @@ module _ (B : Calls) (D : Demands B) where
             room (yes h) = enough c (accepted-says s c e) h
             room (no h) = short c (accepted-says s c e) (omega arith)
 
-  pub only-ours : LeavesBytes B → Kept B
-  only-ours Y =
+  pub only-ours : Kept B
+  only-ours =
       record {
-        makes = makes Y;
+        makes = makes;
         checks = checks;
         reads = reads;
         places = places;
@@ -216,9 +208,3 @@ module _ (B : Calls) (D : Demands B) where
         names-by = names-by;
         names-by-numbered = λ t m. D .one .mnemonics t m ∙ sym (mnemonic-number t m);
       }
-
--- and ours leaves bytes
-pub ours-bytes : LeavesBytes ours
-ours-bytes s l n e =
-    let t = made-table s l n e in
-    subst (λ (x : List ℕ). AreBytes x) (sym (t .table)) (write-bytes 1 (t .content) (accepted-lawful s (t .content) (t .accepted)))

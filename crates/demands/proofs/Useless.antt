@@ -7,7 +7,7 @@ use mathlib.Core.Logic.{inl, inr}
 use Prim.Native.Nat.{ℕ, zero, suc, _-_, _≤_}
 use native.Mathlib.Omega.{arith}
 use native.Mathlib.Decide.{decLe}
-use lib.ListN.{length}
+use lib.ListN.{length, take, getD}
 use Rattle.bits.specs.Word.{bitAt, field}
 use Rattle.lay.proofs.Tests.{refuse}
 use Rattle.sample.specs.declared.component.Component.{Component}
@@ -150,6 +150,10 @@ module _ (B : Calls) (D : Demands B) where
   -- an invented subframe number: of whatever table and frame, there is no other
   pub no-other-subframe : (t f : List ℕ) (s k : ℕ) → B .compare t f ≡ compared.Differs s → FirstDiffering (view t) f k → s ≡ k
   no-other-subframe t f s k e x = one-first (view t) f s k (D .one .subframe-told t f s e) x
+
+  -- an item of the table that is no byte, though the table is viewed alike: of whatever sheet, there is none
+  pub no-item-above : (s l : List ℕ) (n i : ℕ) → B .make s l ≡ made.Length n → 256 ≤ getD (take n (B .made s l)) i 0 → ⊥
+  no-item-above s l n i e h = omega (arith, D .two .sheet .bytes s l n e i)
 
   -- ---- bad ones: every read answered, every placing done, every comparison passed, the words wiped
 

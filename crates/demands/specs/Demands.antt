@@ -8,6 +8,7 @@ use denote.Ref.{RefT, now}
 use lib.IntN.{ℤ, pos}
 use lib.ListN.{length, take, drop}
 use Rattle.bits.specs.Sign.{signed}
+use Rattle.lay.specs.Bytes.{AreBytes}
 use Rattle.sample.specs.Component.{Place, Named}
 use Rattle.sample.specs.Joining.{join, width}
 use Rattle.sample.specs.Source.{bitIn}
@@ -117,6 +118,8 @@ pub record SheetTaken (B : Calls) : Type 0 where
   pub taken : (s l : List ℕ) (c : Content) → Says s c → length (write 1 c) ≤ length l → B .make s l ≡ made.Length (length (write 1 c))
   pub only : (s l : List ℕ) (n : ℕ) → B .make s l ≡ made.Length n → (c : Content) × Says s c
   pub says : (s l : List ℕ) (n : ℕ) (c : Content) → B .make s l ≡ made.Length n → Says s c → view (take n (B .made s l)) ≡ c
+  -- what is left is bytes, each below 256: 583 as one item would be viewed as 71 and 2 are
+  pub bytes : (s l : List ℕ) (n : ℕ) → B .make s l ≡ made.Length n → AreBytes (take n (B .made s l))
   pub later : (s l : List ℕ) (n : ℕ) → B .make s l ≡ made.Length n → drop n (B .made s l) ≡ drop n l
 
 -- the parameter's name, asked for by its number or its mnemonic
