@@ -13,7 +13,8 @@ use Rattle.lay.proofs.Tests.{refuse}
 use Rattle.sample.specs.declared.component.Component.{Component}
 use Rattle.sample.specs.Component.{Place, Named}
 use Rattle.sample.specs.Source.{bitIn}
-use Rattle.sample.specs.Joining.{partOf}
+use Rattle.sample.specs.Joining.{partOf, join}
+use Rattle.sample.proofs.Sources.{join-agree}
 use Rattle.sample.specs.Flat.{sum, before, position}
 use Rattle.model.specs.Accepts.{accepts}
 use Rattle.model.specs.Content.{Content, parameter, sample}
@@ -34,8 +35,9 @@ use Rattle.framing.specs.Comparing.{comparedNumber}
 use Rattle.framing.specs.declared.compare.Compared.the-variants as compared
 use Rattle.demands.specs.Calls.{Calls}
 use Rattle.demands.specs.Refusing.{Rule, rule, componentsOf, firstBroken, placeRules}
-use Rattle.demands.specs.Demands.{HasSample, Fitting, FirstDiffering, Demands}
+use Rattle.demands.specs.Demands.{HasSample, answerFor, Fitting, FirstDiffering, Demands}
 use Rattle.demands.proofs.Told.{one-first}
+use Rattle.demands.proofs.Unbroken.{readable}
 use Rattle.demands.proofs.Wall.{words, others, lower, words-meet, others-meet, lower-meets, sync-listed, pitch-listed, raw-in, wallTable, made-wall, whole, says-wall, fitting, there, reads-pitch, pitch-room}
 
 -- ---- no bytes are no table: 18 stands first in every call
@@ -80,6 +82,30 @@ second-named = inr (inl (refl, omega arith, omega arith))
 second-differs : bitIn words second ≡ bitIn lower second → ⊥
 unfolding bitAt
 second-differs e = omega (arith, e)
+
+-- 63 in Pitch: both components filled; the second one's bit is another than lower's
+abbrev filled : List ℕ
+filled = 583 ∷ 15 ∷ 0 ∷ 6 ∷ []
+
+abbrev others-of : List Component → List Component
+others-of [] = []
+others-of (c ∷ cs) = cs
+
+filled-joins : join filled (componentsOf wall 2 1) ≡ 63
+unfolding bitAt field partOf join sum before position wordCounts piece pieces componentsOf
+filled-joins = refl
+
+second-other : Named (others-of (componentsOf wall 2 1)) second
+unfolding Named sum before position wordCounts piece pieces componentsOf
+second-other = inl (refl, omega arith, omega arith)
+
+second-kept : bitIn filled second ≡ bitIn lower second → ⊥
+unfolding bitAt
+second-kept e = omega (arith, e)
+
+answer-zero : (c : Content) (p s v : ℕ) → readNumber (answerFor c p s v) ≡ 0
+unfolding readNumber
+answer-zero c p s v = refl
 
 -- words and others differ at a bit that Sync names
 abbrev lowest : Place
@@ -127,6 +153,23 @@ module _ (B : Calls) (D : Demands B) where
       let same : (p s : ℕ) → firstPart words (componentsOf (view (wallTable B)) p s) ≡ firstPart lower (componentsOf (view (wallTable B)) p s) = λ p s. subst (λ (c : Content). firstPart words (componentsOf c p s) ≡ firstPart lower (componentsOf c p s)) (sym (says-wall B D)) (first-same p s) in
       let x = D .three .exactly (wallTable B) words lower (fitting B D words words-meet) (fitting B D lower lower-meets) .0 (record { each = λ p s l. u (wallTable B) words lower p s (same p s) }) in
       second-differs (x .each 2 1 (there B D 2 1 pitch-listed) second (subst (λ (c : Content). Named (componentsOf c 2 1) second) (sym (says-wall B D)) second-named))
+
+  -- placing into the first component only: the bits of the others stay
+  pub all-components-placed : ((t f : List ℕ) (p s v : ℕ) → Fitting B t f → HasSample (view t) p s
+      → (q : Place) → Named (others-of (componentsOf (view t) p s)) q → bitIn (B .placed t f p s v) q ≡ bitIn f q) → ⊥
+  all-components-placed u =
+      let t = wallTable B in
+      let g = B .placed t lower 2 1 63 in
+      let h = fitting B D lower lower-meets in
+      let l = there B D 2 1 pitch-listed in
+      let x = D .two .placed t lower 2 1 63 h l (pitch-room B D) in
+      let r = readable t g 2 1 (sym (D .one .reads t g 2 1) ∙ (ap readNumber (x .back) ∙ answer-zero (view t) 2 1 63)) in
+      let j = D .two .joined t g 2 1 (record { passes = h .passes; fits = r .fits }) l in
+      let e : join g (componentsOf (view t) 2 1) ≡ 63 = ap raw-in (sym j ∙ x .back) in
+      let k : join filled (componentsOf (view t) 2 1) ≡ 63 = ap (λ (c : Content). join filled (componentsOf c 2 1)) (says-wall B D) ∙ filled-joins in
+      let n = subst (λ (c : Content). Named (componentsOf c 2 1) second) (sym (says-wall B D)) second-named in
+      let o = subst (λ (c : Content). Named (others-of (componentsOf c 2 1)) second) (sym (says-wall B D)) second-other in
+      second-kept (sym (join-agree g filled (componentsOf (view t) 2 1) (e ∙ sym k) second n) ∙ u t lower 2 1 63 h l second o)
 
   -- an invented table length: of whatever sheet, there is no other
   pub no-other-length : (s l : List ℕ) (n : ℕ) (c : Content) → Says s c → B .make s l ≡ made.Length n → n ≡ length (write 1 c)
