@@ -1,6 +1,8 @@
 //! A batch of cases and listings, made from a seed.
 
 use crate::breaks;
+use crate::card_cases;
+use crate::card_listings::{self, CardListing};
 use crate::cases::Case;
 use crate::contents::Contents;
 use crate::damage;
@@ -16,11 +18,15 @@ use crate::sheets;
 pub struct Batch {
     pub cases: Vec<Case>,
     pub listings: Vec<Listing>,
+    pub card_listings: Vec<CardListing>,
     pub seed: u64,
 }
 
 /// One listing is made for so many cases.
 const CASES_A_LISTING: usize = 50;
+
+/// One listing of a card is made for so many cases.
+const CASES_A_CARD_LISTING: usize = 100;
 
 pub fn batch(seed: u64, count: usize) -> Batch {
     let mut random = Random::seeded(seed);
@@ -28,7 +34,10 @@ pub fn batch(seed: u64, count: usize) -> Batch {
     let cases = (0..count).map(|index| case(&mut random, index, &stride)).collect();
     let listings =
         (0..count.div_ceil(CASES_A_LISTING)).map(|index| listings::one(&mut random, index)).collect();
-    Batch { cases, listings, seed }
+    let card_listings = (0..count.div_ceil(CASES_A_CARD_LISTING))
+        .map(|index| card_listings::one(&mut random, index))
+        .collect();
+    Batch { cases, listings, card_listings, seed }
 }
 
 /// How far apart the cases stand that are made in turn.
@@ -74,6 +83,9 @@ fn case(random: &mut Random, index: usize, stride: &Stride) -> Case {
     if let Some(turn) = stride.large(index, 1600, 53) {
         return large_frame(random, turn);
     }
+    if let Some(case) = large_card(random, index, stride) {
+        return case;
+    }
     let in_turn = match (stride.turn(index, 7, 5), stride.turn(index, 61, 40)) {
         (Some(turn), _) => Some(sheets::misspelled_in_turn(random, stride.start + turn)),
         (_, Some(turn)) => Some(sheets::misordered_in_turn(random, stride.start + turn)),
@@ -85,15 +97,27 @@ fn case(random: &mut Random, index: usize, stride: &Stride) -> Case {
     }
 }
 
+fn large_card(random: &mut Random, index: usize, stride: &Stride) -> Option<Case> {
+    if stride.large(index, 180, 91).is_some() {
+        return Some(card_cases::too_long(random));
+    }
+    if let Some(turn) = stride.large(index, 900, 131) {
+        return Some(card_cases::longest(random, stride.start + turn));
+    }
+    let turn = stride.large(index, 1000, 311)?;
+    Some(card_cases::too_long_and_refused(random, turn))
+}
+
 fn drawn(random: &mut Random) -> Case {
     match random.below(100) {
-        0..=37 => drawn_make(random),
-        38..=53 => check(random),
-        54..=68 => read(random),
-        69..=80 => place(random),
-        81..=89 => compare(random),
-        90..=93 => name(random),
-        _ => mnemonic(random),
+        0..=35 => drawn_make(random),
+        36..=51 => check(random),
+        52..=62 => read(random),
+        63..=71 => place(random),
+        72..=77 => compare(random),
+        78..=80 => name(random),
+        81..=84 => mnemonic(random),
+        _ => card_cases::drawn(random),
     }
 }
 

@@ -2,6 +2,7 @@
 
 use std::panic;
 
+use crate::carding::{self, Found};
 use crate::checking;
 use crate::comparing;
 use crate::making;
@@ -19,10 +20,15 @@ pub enum Case {
     Compare { table: Vec<u8>, frame: Vec<u16> },
     Name { table: Vec<u8>, parameter: u32 },
     Mnemonic { table: Vec<u8>, mnemonic: Vec<u8> },
+    Card { table: Vec<u8>, stream: Vec<u8>, lent: usize },
+    CardFrom { table: Vec<u8>, stream: Vec<u8>, from: u32, lent: usize },
 }
 
 /// What stands in lent bytes before the call.
 const BEFORE: u8 = 165;
+
+/// What stands in lent words before the call.
+const BEFORE_WORDS: u16 = 42_405;
 
 impl Case {
     pub fn kind(&self) -> u8 {
@@ -34,6 +40,8 @@ impl Case {
             Case::Compare { .. } => 5,
             Case::Name { .. } => 6,
             Case::Mnemonic { .. } => 7,
+            Case::Card { .. } => 8,
+            Case::CardFrom { .. } => 10,
         }
     }
 
@@ -63,6 +71,17 @@ impl Case {
             Case::Mnemonic { table, mnemonic } => {
                 put_bytes(&mut out, table);
                 put_bytes(&mut out, mnemonic);
+            }
+            Case::Card { table, stream, lent } => {
+                put_bytes(&mut out, table);
+                put_bytes(&mut out, stream);
+                out.extend((*lent as u32).to_le_bytes());
+            }
+            Case::CardFrom { table, stream, from, lent } => {
+                put_bytes(&mut out, table);
+                put_bytes(&mut out, stream);
+                out.extend(from.to_le_bytes());
+                out.extend((*lent as u32).to_le_bytes());
             }
         }
         out
@@ -98,6 +117,12 @@ impl Case {
             },
             Case::Name { table, parameter } => part_line(6, naming::by_number(table, *parameter)),
             Case::Mnemonic { table, mnemonic } => part_line(7, naming::by_mnemonic(table, mnemonic)),
+            Case::Card { table, stream, lent } => {
+                card_line(8, *lent, |words| carding::card(table, stream, words))
+            }
+            Case::CardFrom { table, stream, from, lent } => {
+                card_line(10, *lent, |words| carding::card_from(table, stream, *from, words))
+            }
         }
     }
 }
@@ -116,6 +141,16 @@ fn part_line(kind: u8, part: Result<Part, u8>) -> String {
         Ok(part) => format!("{kind} 0 {} {}", part.start, part.length),
         Err(number) => format!("{kind} {number} 0 0"),
     }
+}
+
+fn card_line(kind: u8, lent: usize, call: impl Fn(&mut [u16]) -> Result<Found, u8>) -> String {
+    let mut words = vec![BEFORE_WORDS; lent];
+    let (number, found) = match call(&mut words) {
+        Ok(found) => (0, found),
+        Err(number) => (number, Found { position: 0, count: 0 }),
+    };
+    let sum = sum(words.iter().map(|&word| u64::from(word)));
+    format!("{kind} {number} {} {} {sum}", found.position, found.count)
 }
 
 pub fn sum(items: impl Iterator<Item = u64>) -> u64 {

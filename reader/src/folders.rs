@@ -5,6 +5,7 @@ use std::io;
 use std::path::{Path, PathBuf};
 
 use crate::batch::Batch;
+use crate::card_listings::CardListing;
 use crate::listings::Listing;
 use crate::random::Random;
 
@@ -46,9 +47,9 @@ pub fn pack(batch: &Batch) -> Vec<Packed> {
 fn add_ending(random: &mut Random, packed: &mut Packed, batch: &Batch) {
     let ending = match random.below(6) {
         0 | 1 => return,
-        2 => vec![*random.pick(&[0, 8, 9, 49, 255])],
+        2 => vec![*random.pick(&[0, 9, 11, 49, 255])],
         3 => [vec![0], batch.cases[packed.first].bytes()].concat(),
-        4 => vec![random.between(1, 7) as u8, 255, 255, 255, 255, 1],
+        4 => vec![*random.pick(&[1, 2, 3, 4, 5, 6, 7, 8, 10]), 255, 255, 255, 255, 1],
         _ => {
             let case = random.pick(&batch.cases).bytes();
             let length = random.between(1, case.len() - 1);
@@ -83,8 +84,23 @@ pub fn write_packed(parent: &Path, number: usize, packed: &Packed, lines: &[Stri
 
 pub fn write_listing(parent: &Path, number: usize, listing: &Listing) -> io::Result<PathBuf> {
     let folder = parent.join(format!("l{number:03}"));
+    let files = [("sheet.frcs", &listing.sheet), ("frame.bin", &listing.frame)];
+    write_files(folder, files, &listing.expected())
+}
+
+pub fn write_card_listing(parent: &Path, number: usize, listing: &CardListing) -> io::Result<PathBuf> {
+    let folder = parent.join(format!("c{number:03}"));
+    let files = [("sheet.frcs", &listing.sheet), ("card.bin", &listing.stream)];
+    write_files(folder, files, &listing.expected())
+}
+
+fn write_files(
+    folder: PathBuf,
+    files: [(&str, &Option<Vec<u8>>); 2],
+    expected: &[u8],
+) -> io::Result<PathBuf> {
     fs::create_dir_all(&folder)?;
-    for (name, file) in [("sheet.frcs", &listing.sheet), ("frame.bin", &listing.frame)] {
+    for (name, file) in files {
         let path = folder.join(name);
         match file {
             Some(bytes) => fs::write(path, bytes)?,
@@ -92,6 +108,6 @@ pub fn write_listing(parent: &Path, number: usize, listing: &Listing) -> io::Res
             None => {}
         }
     }
-    fs::write(folder.join("expected"), listing.expected())?;
+    fs::write(folder.join("expected"), expected)?;
     Ok(folder)
 }

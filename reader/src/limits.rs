@@ -11,6 +11,11 @@ pub fn sheet() -> usize {
     bound(65_536, Wrong::B1a, Wrong::LimitSheetMore)
 }
 
+/// Bytes of a card's stream.
+pub fn stream() -> usize {
+    bound(65_536, Wrong::CardStreamLess, Wrong::CardStreamMore)
+}
+
 pub fn line() -> usize {
     bound(1024, Wrong::LimitLineLess, Wrong::LimitLineMore)
 }

@@ -3,6 +3,10 @@
 
 mod batch;
 mod breaks;
+mod card_cases;
+mod card_listing;
+mod card_listings;
+mod carding;
 mod cases;
 mod checking;
 mod comparing;
@@ -34,6 +38,7 @@ mod seconds;
 mod sheets;
 mod shortest;
 mod spelling;
+mod streams;
 mod switched;
 mod tally;
 mod wrong;
@@ -46,10 +51,10 @@ use std::process::ExitCode;
 
 const USAGE: &str = "usage:
   reader cases --seed N --cases M --out DIR [--wrong X]
-  reader run --seed N --cases M [--trial COMMAND] [--listing COMMAND] [--wrong X]
+  reader run --seed N --cases M [--trial COMMAND] [--listing COMMAND] [--cards COMMAND] [--wrong X]
   reader switches
   reader switched --seed N --cases M [--jobs J]
-  reader list DIR
+  reader list [--card] DIR
   reader judge FILE";
 
 fn main() -> ExitCode {
@@ -76,6 +81,7 @@ fn command(arguments: &[String]) -> Result<bool, String> {
             Ok(switched::switched(number(options, "--seed")?, number(options, "--cases")? as usize, jobs))
         }
         ("list", [folder]) => list(Path::new(folder)),
+        ("list", [option, folder]) if option == "--card" => list_card(Path::new(folder)),
         ("judge", [file]) => judge(Path::new(file)),
         _ => Err(USAGE.to_string()),
     }
@@ -118,11 +124,14 @@ fn write_cases(options: &[String]) -> Result<bool, String> {
     for (number, listing) in batch.listings.iter().enumerate() {
         folders::write_listing(out, number, listing).map_err(said)?;
     }
+    for (number, listing) in batch.card_listings.iter().enumerate() {
+        folders::write_card_listing(out, number, listing).map_err(said)?;
+    }
     let tally = run::tally_of(&batch, &lines);
     tally.print();
     println!(
         "tally: cases {} least-number-count {}",
-        batch.cases.len() + batch.listings.len(),
+        batch.cases.len() + batch.listings.len() + batch.card_listings.len(),
         tally.least()
     );
     Ok(true)
@@ -130,7 +139,8 @@ fn write_cases(options: &[String]) -> Result<bool, String> {
 
 fn run_programs(options: &[String]) -> Result<bool, String> {
     let owned = |name| option(options, name).map(str::to_string);
-    let commands = run::Commands { trial: owned("--trial"), listing: owned("--listing") };
+    let [trial, listing, cards] = ["--trial", "--listing", "--cards"].map(owned);
+    let commands = run::Commands { trial, listing, cards };
     let seed = number(options, "--seed")?;
     let switch = switch_on_after_making(options)?;
     run::run(seed, number(options, "--cases")? as usize, &commands, switch).map_err(said)
@@ -155,6 +165,13 @@ fn list(folder: &Path) -> Result<bool, String> {
     let sheet = file_or_empty(&folder.join("sheet.frcs"));
     let frame = file_or_empty(&folder.join("frame.bin"));
     io::stdout().write_all(&listing::listing(&sheet, &frame)).map_err(said)?;
+    Ok(true)
+}
+
+fn list_card(folder: &Path) -> Result<bool, String> {
+    let sheet = file_or_empty(&folder.join("sheet.frcs"));
+    let stream = file_or_empty(&folder.join("card.bin"));
+    io::stdout().write_all(&card_listing::listing(&sheet, &stream)).map_err(said)?;
     Ok(true)
 }
 

@@ -1,4 +1,4 @@
-//! Runs the two programs on a batch and compares line by line.
+//! Runs the programs on a batch and compares line by line.
 
 use std::env;
 use std::fs;
@@ -17,6 +17,7 @@ const SHOWN: usize = 10;
 pub struct Commands {
     pub trial: Option<String>,
     pub listing: Option<String>,
+    pub cards: Option<String>,
 }
 
 struct Comparison {
@@ -40,9 +41,13 @@ pub fn run(seed: u64, count: usize, commands: &Commands, switch: Option<Wrong>) 
     if let Some(listing) = &commands.listing {
         comparison.listings(listing, &batch)?;
     }
+    if let Some(cards) = &commands.cards {
+        comparison.card_listings(cards, &batch)?;
+    }
     let tally = tally_of(&batch, &lines);
-    let cases = batch.cases.len() + batch.listings.len();
-    println!("cases {} and listings {}", batch.cases.len(), batch.listings.len());
+    let [listings, cards] = [batch.listings.len(), batch.card_listings.len()];
+    let cases = batch.cases.len() + listings + cards;
+    println!("cases {}, listings {listings}, listings of cards {cards}", batch.cases.len());
     tally.print();
     if comparison.differences == 0 && folder.exists() {
         fs::remove_dir_all(&folder)?;
@@ -59,6 +64,9 @@ pub fn tally_of(batch: &Batch, lines: &[String]) -> Tally {
     }
     for listing in &batch.listings {
         tally.count_listing(&listing.expected());
+    }
+    for listing in &batch.card_listings {
+        tally.count_card_listing(&listing.expected());
     }
     tally
 }
@@ -97,13 +105,25 @@ impl Comparison {
     fn listings(&mut self, command: &str, batch: &Batch) -> io::Result<()> {
         for (number, listing) in batch.listings.iter().enumerate() {
             let folder = folders::write_listing(&self.folder, number, listing)?;
-            let written = output_of(command, &folder)?;
-            let expected = listing.expected();
-            if written != expected {
-                let (ours, theirs) = (String::from_utf8_lossy(&expected), String::from_utf8_lossy(&written));
-                let (ours, theirs) = first_differing_lines(&ours, &theirs);
-                self.show(&format!("listing {number}"), ours.as_ref(), theirs.as_ref(), &folder);
-            }
+            self.listing(command, &format!("listing {number}"), &folder, &listing.expected())?;
+        }
+        Ok(())
+    }
+
+    fn card_listings(&mut self, command: &str, batch: &Batch) -> io::Result<()> {
+        for (number, listing) in batch.card_listings.iter().enumerate() {
+            let folder = folders::write_card_listing(&self.folder, number, listing)?;
+            self.listing(command, &format!("listing of card {number}"), &folder, &listing.expected())?;
+        }
+        Ok(())
+    }
+
+    fn listing(&mut self, command: &str, what: &str, folder: &Path, expected: &[u8]) -> io::Result<()> {
+        let written = output_of(command, folder)?;
+        if written != expected {
+            let (ours, theirs) = (String::from_utf8_lossy(expected), String::from_utf8_lossy(&written));
+            let (ours, theirs) = first_differing_lines(&ours, &theirs);
+            self.show(what, ours.as_ref(), theirs.as_ref(), folder);
         }
         Ok(())
     }

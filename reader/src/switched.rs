@@ -37,12 +37,14 @@ pub fn switched(seed: u64, count: usize, jobs: usize) -> bool {
 struct Answers {
     lines: Vec<String>,
     listings: Vec<Vec<u8>>,
+    card_listings: Vec<Vec<u8>>,
 }
 
 fn answers(batch: &Batch) -> Answers {
     Answers {
         lines: batch.cases.iter().map(|case| case.line()).collect(),
         listings: batch.listings.iter().map(|listing| listing.expected()).collect(),
+        card_listings: batch.card_listings.iter().map(|listing| listing.expected()).collect(),
     }
 }
 
@@ -55,6 +57,8 @@ fn differing(batch: &Batch, right: &Answers, switch: Wrong) -> usize {
     let lines = lines.filter(|(case, line)| differs(case.line().as_bytes(), line.as_bytes())).count();
     let texts = batch.listings.iter().zip(&right.listings);
     let texts = texts.filter(|(listing, text)| differs(&listing.expected(), text)).count();
+    let cards = batch.card_listings.iter().zip(&right.card_listings);
+    let cards = cards.filter(|(listing, text)| differs(&listing.expected(), text)).count();
     wrong::switch_on(None);
-    lines + texts
+    lines + texts + cards
 }

@@ -1,43 +1,76 @@
 //! How often each refusal number and each answered kind came.
 
+use std::collections::BTreeMap;
+
 use crate::cases::number_of;
+
+/// The numbers that some call gives.
+const NUMBERS: [usize; 28] =
+    [1, 2, 3, 4, 5, 6, 7, 8, 9, 10, 11, 12, 13, 14, 15, 16, 17, 18, 19, 20, 21, 22, 23, 24, 25, 27, 28, 38];
+
+const KINDS: [(u8, &str); 9] = [
+    (1, "make"),
+    (2, "check"),
+    (3, "read"),
+    (4, "place"),
+    (5, "compare"),
+    (6, "name"),
+    (7, "by mnemonic"),
+    (8, "card"),
+    (10, "card from"),
+];
 
 #[derive(Default)]
 pub struct Tally {
-    numbers: [usize; 25],
-    answered: [usize; 8],
+    numbers: BTreeMap<usize, usize>,
+    answered: BTreeMap<u8, usize>,
     listed: usize,
+    cards_listed: usize,
 }
 
 impl Tally {
     pub fn count_line(&mut self, kind: u8, line: &str) {
         match number_of(line) {
-            Some(0) => self.answered[usize::from(kind)] += 1,
-            Some(number) if number < 25 => self.numbers[number] += 1,
-            _ => {}
+            Some(0) => *self.answered.entry(kind).or_default() += 1,
+            Some(number) => *self.numbers.entry(number).or_default() += 1,
+            None => {}
         }
     }
 
     pub fn count_listing(&mut self, text: &[u8]) {
+        self.listed += usize::from(!self.count_refused(text));
+    }
+
+    pub fn count_card_listing(&mut self, text: &[u8]) {
+        self.cards_listed += usize::from(!self.count_refused(text));
+    }
+
+    /// Whether the text is a refusal.
+    fn count_refused(&mut self, text: &[u8]) -> bool {
         let text = String::from_utf8_lossy(text);
-        match number_of(text.trim_end()).filter(|_| text.starts_with("refused ")) {
-            Some(number) if number < 25 => self.numbers[number] += 1,
-            _ => self.listed += 1,
+        let number = number_of(text.trim_end()).filter(|_| text.starts_with("refused "));
+        if let Some(number) = number {
+            *self.numbers.entry(number).or_default() += 1;
         }
+        number.is_some()
+    }
+
+    fn times(&self, number: usize) -> usize {
+        self.numbers.get(&number).copied().unwrap_or(0)
     }
 
     pub fn least(&self) -> usize {
-        self.numbers[1..].iter().copied().min().unwrap_or(0)
+        NUMBERS.iter().map(|&number| self.times(number)).min().unwrap_or(0)
     }
 
     pub fn print(&self) {
-        for (number, count) in self.numbers.iter().enumerate().skip(1) {
-            println!("refusal {number}: {count}");
+        for number in NUMBERS {
+            println!("refusal {number}: {}", self.times(number));
         }
-        let kinds = ["make", "check", "read", "place", "compare", "name", "by mnemonic"];
-        for (kind, name) in kinds.iter().enumerate() {
-            println!("answered {} ({name}): {}", kind + 1, self.answered[kind + 1]);
+        for (kind, name) in KINDS {
+            println!("answered {kind} ({name}): {}", self.answered.get(&kind).unwrap_or(&0));
         }
         println!("answered listing: {}", self.listed);
+        println!("answered cards: {}", self.cards_listed);
     }
 }

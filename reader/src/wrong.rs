@@ -327,6 +327,41 @@ switches! {
     SlipWordsFromZero, "slip-words-from-0", "words counted from 0";
     SlipPlacingClears, "slip-placing-clears", "placing clears the rest of the word";
     SlipTrustedTable, "slip-trusted-table", "a table's rules 14 to 16 and texts are trusted";
+    CardByteHighFirst, "card-byte-high-first", "card: the high bit of a byte comes first";
+    CardWordHighFirst, "card-word-high-first", "card: the high bit of a word comes first";
+    CardWholeBytes, "card-whole-bytes", "card: positions go by whole bytes";
+    CardFirstIdentifier, "card-first-identifier", "card: only subframe 1's identifier is compared";
+    CardLastPosition, "card-last-position", "card: the last position that agrees, not the first";
+    CardOpenEnd, "card-open-end", "card: the last trailing bits may lie beyond the stream";
+    CardNoLeading, "card-no-leading", "card: leading bits forgotten";
+    CardNoTrailing, "card-no-trailing", "card: trailing bits forgotten";
+    CardBlankMargins, "card-blank-margins", "card: leading and trailing bits must be 0";
+    CardFirstMargins, "card-first-margins", "card: subframe 1's margins hold for all";
+    CardFirstBits, "card-first-bits", "card: subframe 1's bits per word hold for all";
+    CardNoParameters, "card-no-parameters", "card: a table without parameters finds the first frame";
+    Card38First, "card-38-first", "card: 38 before 27";
+    Card25First, "card-25-first", "card: 25 before 38";
+    Card28First, "card-28-first", "card: 28 before 25";
+    Card28Exact, "card-28-exact", "card: as many words lent as the frame has are 28";
+    Card28Never, "card-28-never", "card: as many words as are lent, without 28";
+    Card28Writes, "card-28-writes", "card: 28 writes as far as the lent words reach";
+    CardWipes, "card-wipes", "card: words beyond the frame become 0";
+    CardOtherWords, "card-other-words", "card: the words from the position's byte on";
+    CardStreamLess, "card-stream-less", "card: a stream of 65,536 bytes is 38";
+    CardStreamMore, "card-stream-more", "card: a stream of 65,537 bytes accepted";
+    CardStreamCut, "card-stream-cut", "card: a longer stream is cut at 65,536 bytes";
+    CardPositionWord, "card-position-word", "card: the position of the first word's first bit";
+    CardPositionFrom, "card-position-from", "card: the position counted from `from`";
+    CardCountLent, "card-count-lent", "card: all lent words counted";
+    CardFromIgnored, "card-from-ignored", "card: `from` not looked at";
+    CardFromAfter, "card-from-after", "card: only positions after `from`";
+    CardFromCut, "card-from-cut", "card: `from` cut to 16 bits";
+    CardFromBeyond, "card-from-beyond", "card: a `from` beyond the end begins at 0";
+    CardsNextBit, "cards-next-bit", "cards: the next frame is sought one bit on";
+    CardsAtOnce, "cards-at-once", "cards: bits between frames end the listing";
+    CardsFirstOnly, "cards-first-only", "cards: only the first frame is listed";
+    CardsEndRefused, "cards-end-refused", "cards: no further frame refuses the card";
+    CardsHeadings, "cards-headings", "cards: a heading for each frame";
 }
 
 /// Points whose rejected readings no case can show, with the reason.

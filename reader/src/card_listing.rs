@@ -1,0 +1,70 @@
+//! The text that the program `cards` writes.
+
+use crate::carding;
+use crate::contents::Contents;
+use crate::judging;
+use crate::making;
+use crate::reading;
+use crate::wrong::{wrongly, Wrong};
+
+/// Bytes lent for the table by the program.
+const LENT: usize = 65_536;
+
+const HEADING: &[u8] = b"position,name,sample,width,raw,value\n";
+
+/// The rows of every frame found, or `refused N L` alone. A missing file is
+/// given as empty.
+pub fn listing(sheet: &[u8], stream: &[u8]) -> Vec<u8> {
+    match rows(sheet, stream) {
+        Ok(text) => text,
+        Err((number, line)) => format!("refused {number} {line}\n").into_bytes(),
+    }
+}
+
+fn rows(sheet: &[u8], stream: &[u8]) -> Result<Vec<u8>, (u8, u32)> {
+    let contents = judging::judge(sheet).map_err(|refusal| (refusal.number, refusal.line))?;
+    let table = making::table_bytes(&contents);
+    if table.len() > LENT {
+        return Err((17, 0));
+    }
+    let mut words = vec![0; contents.frame_words()];
+    let mut text = HEADING.to_vec();
+    let mut found = carding::card(&table, stream, &mut words).map_err(|number| (number, 0))?;
+    loop {
+        put_rows(&mut text, &contents, found.position, &words);
+        let next = after(&contents, found.position);
+        found = match carding::card_from(&table, stream, next as u32, &mut words) {
+            Ok(later) if !wrongly(Wrong::CardsFirstOnly) => later,
+            Err(number) if wrongly(Wrong::CardsEndRefused) => return Err((number, 0)),
+            _ => return Ok(text),
+        };
+        assert!(found.position >= next, "only a wrong reading goes back, and could do so for ever");
+        if wrongly(Wrong::CardsAtOnce) && found.position != next {
+            return Ok(text);
+        }
+        if wrongly(Wrong::CardsHeadings) {
+            text.extend(HEADING);
+        }
+    }
+}
+
+/// Where the next frame may begin: behind the last one's last trailing bit.
+fn after(contents: &Contents, position: usize) -> usize {
+    if wrongly(Wrong::CardsNextBit) {
+        return position + 1;
+    }
+    position + carding::frame_bits(contents)
+}
+
+/// A row for each parameter's each sample.
+fn put_rows(text: &mut Vec<u8>, contents: &Contents, position: usize, words: &[u16]) {
+    for parameter in &contents.parameters {
+        for (index, sample) in parameter.samples.iter().enumerate() {
+            let answer = reading::answer(contents, sample, parameter.signed, words);
+            text.extend(format!("{position},").bytes());
+            text.extend(&parameter.name);
+            let row = format!(",{},{},{},{}\n", index + 1, answer.width, answer.raw, answer.value);
+            text.extend(row.bytes());
+        }
+    }
+}

@@ -1,0 +1,213 @@
+//! Reading a quick access card, a stream of bits: 18, 27, 38, 25, 28.
+//!
+//! The low bit of each byte comes first, and the low bit of each word. A
+//! subframe is its leading bits, its words, its trailing bits.
+
+use crate::checking;
+use crate::contents::Contents;
+use crate::limits;
+use crate::wrong::{wrongly, Wrong};
+
+/// The frame handed out: how many bits stand before it, and its words' count.
+#[derive(Clone, Copy, Debug, PartialEq, Eq)]
+pub struct Found {
+    pub position: usize,
+    pub count: usize,
+}
+
+/// Puts the words of the first frame to the front of the lent words. A
+/// refusal writes nothing.
+pub fn card(table: &[u8], stream: &[u8], words: &mut [u16]) -> Result<Found, u8> {
+    sought(table, stream, 0, words)
+}
+
+/// The same for the first frame that does not begin before `from`.
+pub fn card_from(table: &[u8], stream: &[u8], from: u32, words: &mut [u16]) -> Result<Found, u8> {
+    let beyond = from as usize > 8 * stream.len();
+    let from = match from as usize {
+        _ if wrongly(Wrong::CardFromIgnored) || (wrongly(Wrong::CardFromBeyond) && beyond) => 0,
+        from if wrongly(Wrong::CardFromAfter) => from + 1,
+        from if wrongly(Wrong::CardFromCut) => from % 65_536,
+        from => from,
+    };
+    let found = sought(table, stream, from, words)?;
+    let before = if wrongly(Wrong::CardPositionFrom) { from } else { 0 };
+    Ok(Found { position: found.position - before, ..found })
+}
+
+fn sought(table: &[u8], stream: &[u8], from: usize, words: &mut [u16]) -> Result<Found, u8> {
+    let contents = checking::check(table).ok_or(18)?.contents;
+    judge_stream(&contents, stream)?;
+    let frame_words = contents.frame_words();
+    if wrongly(Wrong::Card28First) && words.len() < frame_words {
+        return Err(28);
+    }
+    let cut = wrongly(Wrong::CardStreamCut);
+    let card = Card::of(&contents, &stream[..if cut { stream.len().min(65_536) } else { stream.len() }]);
+    let position = card.first_position(from).ok_or(25)?;
+    if wrongly(Wrong::Card25First) && stream.len() > limits::stream() {
+        return Err(38);
+    }
+    let lent = words.len();
+    hand_out(&card.frame_at(position), words)?;
+    let leading = if wrongly(Wrong::CardPositionWord) { card.starts[0] } else { 0 };
+    let count = if wrongly(Wrong::CardCountLent) { lent } else { frame_words };
+    Ok(Found { position: position + leading, count })
+}
+
+/// 27, then 38.
+fn judge_stream(contents: &Contents, stream: &[u8]) -> Result<(), u8> {
+    let judged_later = wrongly(Wrong::CardStreamCut) || wrongly(Wrong::Card25First);
+    let too_long = stream.len() > limits::stream() && !judged_later;
+    if wrongly(Wrong::Card38First) && too_long {
+        return Err(38);
+    }
+    if contents.parameters.is_empty() && !wrongly(Wrong::CardNoParameters) {
+        return Err(27);
+    }
+    if too_long {
+        Err(38)
+    } else {
+        Ok(())
+    }
+}
+
+fn hand_out(frame: &[u16], words: &mut [u16]) -> Result<(), u8> {
+    let front = frame.len().min(words.len());
+    let too_short = front < frame.len() || (wrongly(Wrong::Card28Exact) && frame.len() == words.len());
+    if !too_short || wrongly(Wrong::Card28Writes) || wrongly(Wrong::Card28Never) {
+        words[..front].copy_from_slice(&frame[..front]);
+    }
+    if too_short && !wrongly(Wrong::Card28Never) {
+        return Err(28);
+    }
+    if wrongly(Wrong::CardWipes) {
+        words[front..].fill(0);
+    }
+    Ok(())
+}
+
+/// Bits of a whole frame, margins included.
+pub fn frame_bits(contents: &Contents) -> usize {
+    (0..contents.subframes.len()).map(|index| subframe_bits(contents, index)).sum()
+}
+
+fn subframe_bits(contents: &Contents, index: usize) -> usize {
+    let [leading, trailing] = margins(contents, index);
+    leading + usize::from(contents.subframes[index].words) * word_bits(contents, index) + trailing
+}
+
+/// Leading and trailing bits.
+fn margins(contents: &Contents, index: usize) -> [usize; 2] {
+    let index = if wrongly(Wrong::CardFirstMargins) { 0 } else { index };
+    let subframe = &contents.subframes[index];
+    let leading = if wrongly(Wrong::CardNoLeading) { 0 } else { subframe.leading };
+    let trailing = if wrongly(Wrong::CardNoTrailing) { 0 } else { subframe.trailing };
+    [leading, trailing].map(usize::from)
+}
+
+fn word_bits(contents: &Contents, index: usize) -> usize {
+    let index = if wrongly(Wrong::CardFirstBits) { 0 } else { index };
+    usize::from(contents.subframes[index].bits)
+}
+
+/// A stream, and where a frame of these contents has what.
+struct Card<'c> {
+    contents: &'c Contents,
+    stream: &'c [u8],
+    /// Bits of a frame before each subframe's first word.
+    starts: Vec<usize>,
+    /// The bits of a frame that must be so: those of the record identifiers.
+    due: Vec<(usize, bool)>,
+}
+
+impl Card<'_> {
+    fn of<'c>(contents: &'c Contents, stream: &'c [u8]) -> Card<'c> {
+        let mut starts = Vec::new();
+        let mut before = 0;
+        for index in 0..contents.subframes.len() {
+            starts.push(before + margins(contents, index)[0]);
+            before += subframe_bits(contents, index);
+        }
+        let mut card = Card { contents, stream, starts, due: vec![] };
+        card.due = card.identifier_bits();
+        if wrongly(Wrong::CardBlankMargins) {
+            card.due.extend(card.margin_bits());
+        }
+        card
+    }
+
+    /// Where in a frame the bit of a word stands, all counted from 0.
+    fn place(&self, subframe: usize, word: usize, bit: usize) -> usize {
+        let bits = word_bits(self.contents, subframe);
+        let bit = if wrongly(Wrong::CardWordHighFirst) { bits - 1 - bit } else { bit };
+        self.starts[subframe] + word * bits + bit
+    }
+
+    /// Each identifier's bits as its value has them, the lowest first.
+    fn identifier_bits(&self) -> Vec<(usize, bool)> {
+        let mut due = Vec::new();
+        for parameter in &self.contents.parameters {
+            let Some(value) = parameter.identifier else { continue };
+            let mut rest = u64::from(value);
+            for component in &parameter.samples[0].components {
+                if wrongly(Wrong::CardFirstIdentifier) && component.subframe != 1 {
+                    continue;
+                }
+                let [subframe, word] = [component.subframe, component.word].map(|n| usize::from(n) - 1);
+                for bit in component.low..=component.high {
+                    due.push((self.place(subframe, word, usize::from(bit) - 1), rest % 2 == 1));
+                    rest /= 2;
+                }
+            }
+        }
+        due
+    }
+
+    /// Every margin's bits as 0, which only a wrong reading asks.
+    fn margin_bits(&self) -> Vec<(usize, bool)> {
+        let each = (0..self.starts.len()).flat_map(|index| {
+            let [leading, trailing] = margins(self.contents, index);
+            let end = self.starts[index] - leading + subframe_bits(self.contents, index);
+            (self.starts[index] - leading..self.starts[index]).chain(end - trailing..end)
+        });
+        each.map(|place| (place, false)).collect()
+    }
+
+    fn bit(&self, place: usize) -> bool {
+        let within = if wrongly(Wrong::CardByteHighFirst) { 7 - place % 8 } else { place % 8 };
+        self.stream[place / 8] >> within & 1 == 1
+    }
+
+    /// The least position from here on at which a whole frame fits and every
+    /// record identifier agrees.
+    fn first_position(&self, from: usize) -> Option<usize> {
+        let last_trailing = margins(self.contents, self.starts.len() - 1)[1];
+        let open_end = if wrongly(Wrong::CardOpenEnd) { last_trailing } else { 0 };
+        let last = (8 * self.stream.len()).checked_sub(frame_bits(self.contents) - open_end)?;
+        let step = if wrongly(Wrong::CardWholeBytes) { 8 } else { 1 };
+        let mut positions = (from.next_multiple_of(step)..=last).step_by(step);
+        if wrongly(Wrong::CardLastPosition) {
+            return positions.filter(|&position| self.agrees_at(position)).last();
+        }
+        positions.find(|&position| self.agrees_at(position))
+    }
+
+    fn agrees_at(&self, position: usize) -> bool {
+        self.due.iter().all(|&(place, set)| self.bit(position + place) == set)
+    }
+
+    fn frame_at(&self, position: usize) -> Vec<u16> {
+        let position = if wrongly(Wrong::CardOtherWords) { position - position % 8 } else { position };
+        let mut frame = Vec::new();
+        for (index, subframe) in self.contents.subframes.iter().enumerate() {
+            for word in 0..usize::from(subframe.words) {
+                let bits = 0..word_bits(self.contents, index);
+                let weighted =
+                    bits.map(|bit| u16::from(self.bit(position + self.place(index, word, bit))) << bit);
+                frame.push(weighted.sum());
+            }
+        }
+        frame
+    }
+}
