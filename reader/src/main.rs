@@ -7,6 +7,7 @@ mod card_cases;
 mod card_listing;
 mod card_listings;
 mod carding;
+mod case_files;
 mod cases;
 mod checking;
 mod comparing;
@@ -37,6 +38,7 @@ mod run;
 mod seconds;
 mod sheets;
 mod shortest;
+mod smallest;
 mod spelling;
 mod streams;
 mod switched;
@@ -54,6 +56,8 @@ const USAGE: &str = "usage:
   reader run --seed N --cases M [--trial COMMAND] [--listing COMMAND] [--cards COMMAND] [--wrong X]
   reader switches
   reader switched --seed N --cases M [--jobs J]
+  reader answers FILE
+  reader smallest [--out FILE]
   reader list [--card] DIR
   reader judge FILE";
 
@@ -80,6 +84,8 @@ fn command(arguments: &[String]) -> Result<bool, String> {
             let jobs = option(options, "--jobs").map_or(Ok(1), |jobs| jobs.parse().map_err(|_| USAGE))?;
             Ok(switched::switched(number(options, "--seed")?, number(options, "--cases")? as usize, jobs))
         }
+        ("answers", [file]) => answers(Path::new(file)),
+        ("smallest", options) => smallest(option(options, "--out").map(Path::new)),
         ("list", [folder]) => list(Path::new(folder)),
         ("list", [option, folder]) if option == "--card" => list_card(Path::new(folder)),
         ("judge", [file]) => judge(Path::new(file)),
@@ -154,6 +160,26 @@ fn list_switches() -> Result<bool, String> {
         println!("no switch for {point}: {reason}");
     }
     Ok(true)
+}
+
+fn answers(file: &Path) -> Result<bool, String> {
+    for line in case_files::answers(&fs::read(file).map_err(said)?) {
+        println!("{line}");
+    }
+    Ok(true)
+}
+
+/// Three lines a case: what it shows, its bytes where they are few, its answer.
+fn smallest(out: Option<&Path>) -> Result<bool, String> {
+    let mut file = Vec::new();
+    for (what, case) in smallest::cases() {
+        let bytes = case.bytes();
+        let digits: String = bytes.iter().map(|byte| format!("{byte:02x}")).collect();
+        let digits = if bytes.len() > 1000 { format!("({} bytes)", bytes.len()) } else { digits };
+        println!("# {what}\n{digits}\n{}", case.line());
+        file.extend(bytes);
+    }
+    out.map_or(Ok(true), |out| fs::write(out, file).map(|()| true).map_err(said))
 }
 
 /// A missing file counts as empty.
