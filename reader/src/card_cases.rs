@@ -45,7 +45,7 @@ fn from(random: &mut Random, contents: &Contents, stream: &Stream) -> u32 {
     let end = 8 * stream.bytes().len();
     let length = carding::frame_bits(contents);
     let at = if stream.positions.is_empty() { 0 } else { *random.pick(&stream.positions) };
-    let from = match random.below(16) {
+    let from = match random.below(22) {
         0 => 0,
         1 | 2 => at,
         3 | 4 => at + 1,

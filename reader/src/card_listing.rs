@@ -68,3 +68,35 @@ fn put_rows(text: &mut Vec<u8>, contents: &Contents, position: usize, words: &[u
         }
     }
 }
+
+#[cfg(test)]
+mod tests {
+    use super::*;
+    use crate::listings::WALL;
+
+    #[test]
+    fn the_example_card() {
+        let sheet = include_bytes!("../../examples/card/sheet.frcs");
+        let stream = include_bytes!("../../examples/card/card.bin");
+        let stored = include_str!("../../examples/card/listing");
+        assert_eq!(String::from_utf8_lossy(&listing(sheet, stream)), stored);
+    }
+
+    #[test]
+    fn the_wall_twice_and_its_refusals() {
+        let text = |sheet: &str, stream: &[u8]| {
+            String::from_utf8_lossy(&listing(sheet.as_bytes(), stream)).into_owned()
+        };
+        let frame = [0x47, 0x52, 0, 0, 0x60, 0];
+        let rows = |position: &str| format!("{position},Sync,1,12,583,583\n{position},Pitch,1,6,53,-11\n");
+        let heading = "position,name,sample,width,raw,value\n";
+        assert_eq!(text(WALL, &frame), [heading, &rows("0")].concat());
+        let between = [&frame[..], &[0], &frame[..]].concat();
+        assert_eq!(text(WALL, &between), [heading, &rows("0"), &rows("56")].concat());
+        let bare = "HEADER:\n2.0,,A,,,1,,,True,,,1,,\nRECORD:\n12,4,,,1.0\nNONE\n";
+        assert_eq!(text("", &frame), "refused 4 1\n");
+        assert_eq!(text(bare, &[0; 65_537]), "refused 27 0\n");
+        assert_eq!(text(WALL, &[0; 65_537]), "refused 38 0\n");
+        assert_eq!(text(WALL, &[]), "refused 25 0\n");
+    }
+}

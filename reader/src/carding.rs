@@ -211,3 +211,49 @@ impl Card<'_> {
         frame
     }
 }
+
+#[cfg(test)]
+mod tests {
+    use super::*;
+    use crate::comparing;
+    use crate::making;
+    use crate::random::Random;
+    use crate::streams;
+
+    /// The identifiers agree at a position exactly when comparing the words
+    /// handed out there passes.
+    #[test]
+    fn found_where_comparing_passes_first() {
+        let mut random = Random::seeded(8);
+        for _ in 0..400 {
+            let contents = streams::contents(&mut random);
+            let stream = streams::drawn(&mut random, &contents).bytes();
+            let card = Card::of(&contents, &stream);
+            let fitting = (8 * stream.len() + 1).saturating_sub(frame_bits(&contents));
+            let passes = |&p: &usize| comparing::first_differing(&contents, &card.frame_at(p)).is_none();
+            let first = (0..fitting.min(500)).find(passes);
+            if first.is_some() || fitting <= 500 {
+                assert_eq!(card.first_position(0), first);
+            }
+        }
+    }
+
+    #[test]
+    fn a_frame_put_is_found_or_an_earlier_one() {
+        let mut random = Random::seeded(9);
+        for _ in 0..400 {
+            let contents = streams::contents(&mut random);
+            let mut stream = streams::Stream::new(&mut random);
+            let before = random.below(30);
+            stream.fill(&mut random, before);
+            stream.put_agreeing(&mut random, &contents);
+            let table = making::table_bytes(&contents);
+            let mut words = vec![7; contents.frame_words() + 1];
+            let found = card(&table, &stream.bytes(), &mut words).expect("a frame is there");
+            assert!(found.position <= before);
+            assert_eq!(words[found.count], 7);
+            let at = card_from(&table, &stream.bytes(), before as u32, &mut words);
+            assert_eq!(at.map(|found| found.position), Ok(before));
+        }
+    }
+}

@@ -72,16 +72,9 @@ impl Case {
                 put_bytes(&mut out, table);
                 put_bytes(&mut out, mnemonic);
             }
-            Case::Card { table, stream, lent } => {
-                put_bytes(&mut out, table);
-                put_bytes(&mut out, stream);
-                out.extend((*lent as u32).to_le_bytes());
-            }
+            Case::Card { table, stream, lent } => put_card(&mut out, table, stream, &[*lent as u32]),
             Case::CardFrom { table, stream, from, lent } => {
-                put_bytes(&mut out, table);
-                put_bytes(&mut out, stream);
-                out.extend(from.to_le_bytes());
-                out.extend((*lent as u32).to_le_bytes());
+                put_card(&mut out, table, stream, &[*from, *lent as u32]);
             }
         }
         out
@@ -162,6 +155,12 @@ fn put_asked(out: &mut Vec<u8>, table: &[u8], frame: &[u16], parameter: u32, sam
     put_words(out, frame);
     out.extend(parameter.to_le_bytes());
     out.extend(sample.to_le_bytes());
+}
+
+fn put_card(out: &mut Vec<u8>, table: &[u8], stream: &[u8], numbers: &[u32]) {
+    put_bytes(out, table);
+    put_bytes(out, stream);
+    out.extend(numbers.iter().flat_map(|number| number.to_le_bytes()));
 }
 
 fn put_bytes(out: &mut Vec<u8>, bytes: &[u8]) {
