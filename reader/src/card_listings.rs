@@ -37,6 +37,11 @@ impl CardListing {
 
 const NONE: &[u8] = b"HEADER:\n2.0,A,TypeX,,,001,,,True,,,1,,\nRECORD:\n12,4,3,1,1.0\nNONE\n";
 
+/// The shortest frame, so that a card has many.
+const ONE_BIT: &[u8] =
+    b"HEADER:\n2.0,,A,,,1,,,True,,,1,,\nRECORD:\n1,1,0,0,1\nPARAMETER:\nSync,,,True,,,\n1,1,0,1\n\
+0\n\nFalse,,,,\n1,,,\n,,\n\n\n";
+
 /// The first ones are fixed, the others drawn.
 pub fn one(random: &mut Random, index: usize) -> CardListing {
     let wall = || Some(WALL.replace("12,4,,,1.0", "12,4,3,1,1.0").into_bytes());
@@ -61,6 +66,7 @@ pub fn one(random: &mut Random, index: usize) -> CardListing {
         },
         10 => longest_frame(random),
         11 => CardListing { sheet: Some(b"HEADER:\n".to_vec()), stream: zeros(65_537) },
+        12 => CardListing { sheet: Some(ONE_BIT.to_vec()), stream: Some(vec![165; 2000]) },
         _ => drawn(random),
     }
 }
