@@ -1,0 +1,4 @@
+pub mod SpanLaws
+pub mod Searching
+pub mod Handing
+pub mod Sieves

@@ -1,0 +1,100 @@
+-- A frame's spans over the bytes of a table. Assumes nothing.
+use mathlib.Core.Path.{_≡_, refl, sym, ap, ap₂, _∙_, subst}
+use mathlib.Core.List.{List}
+use Prim.Native.Nat.{ℕ, _+_, _-_, _*_, _≤_, _<_}
+use native.Mathlib.Numerals.{add-one}
+use native.Mathlib.Omega.{arith}
+use Rattle.lay.proofs.Below.{sum-most}
+use Rattle.model.specs.Content.{Content, Subframe, subframe, subframes}
+use Rattle.model.specs.Frame.{frameWords}
+use Rattle.model.specs.Stored.{subframesIn, bitsIn, wordsIn, leadingIn, trailingIn, homeIn, wordIn, lowIn, highIn}
+use Rattle.model.specs.View.{subframeAt, componentAt, view}
+use Rattle.model.specs.Meaning.{ComponentLaw}
+use Rattle.model.proofs.Views.{subframes-view, subframe-view}
+use Rattle.rules.specs.Ruled.{subframesOf, SubframesLaw, Ruled}
+use Rattle.rules.proofs.Homes.{home-words, home-bits}
+use Rattle.carding.specs.Layout.{subframeBits, bitsBefore, wordsBegin, wordBegins, componentBegins}
+
+-- what a subframe's entry says, within its limits
+pub record Narrow (b : List ℕ) (i : ℕ) : Type 0 where
+  pub bits : bitsIn b i ≤ 16
+  pub words : wordsIn b i ≤ 1024
+  pub leading : leadingIn b i ≤ 4095
+  pub trailing : trailingIn b i ≤ 4095
+
+-- what a component's entry says
+pub record Inside (b : List ℕ) (k : ℕ) : Type 0 where
+  pub someHome : 1 ≤ homeIn b k
+  pub declared : homeIn b k ≤ subframesIn b
+  pub someWord : 1 ≤ wordIn b k
+  pub fewWords : wordIn b k ≤ 1024
+  pub someBit : 1 ≤ lowIn b k
+  pub rising : lowIn b k ≤ highIn b k
+  pub fewBits : highIn b k ≤ 16
+
+module _ (b : List ℕ) where
+  pub span-first : bitsBefore (view b) 0 ≡ 0
+  unfolding bitsBefore
+  span-first = refl
+
+  module _ (i : ℕ) (l : i < subframesIn b) where
+    bits-there : subframeBits (subframe (view b) i) ≡ leadingIn b i + wordsIn b i * bitsIn b i + trailingIn b i
+    unfolding subframeBits subframeAt
+    bits-there = ap subframeBits (subframe-view b i l)
+
+    pub span-next : bitsBefore (view b) (i + 1) ≡ bitsBefore (view b) i + (leadingIn b i + wordsIn b i * bitsIn b i + trailingIn b i)
+    unfolding bitsBefore
+    span-next = rw add-one (ap (λ (n : ℕ). bitsBefore (view b) i + n) bits-there)
+
+    pub begins-there : wordsBegin (view b) i ≡ bitsBefore (view b) i + leadingIn b i
+    unfolding wordsBegin subframeAt
+    begins-there = ap (λ (f : Subframe). bitsBefore (view b) i + f .leading) (subframe-view b i l)
+
+    pub bits-are : subframe (view b) i .bits ≡ bitsIn b i
+    unfolding subframeAt
+    bits-are = ap (λ (f : Subframe). f .bits) (subframe-view b i l)
+
+    pub words-are : subframe (view b) i .words ≡ wordsIn b i
+    unfolding subframeAt
+    words-are = ap (λ (f : Subframe). f .words) (subframe-view b i l)
+
+    pub narrow-there : SubframesLaw b → Narrow b i
+    unfolding subframeAt
+    narrow-there r =
+        let s = r .each i l in
+        record { bits = s .fewBits; words = s .fewWords; leading = s .leading; trailing = s .trailing }
+
+  -- 32 subframes of at most 1,024 words
+  pub few-words : Ruled b → frameWords (view b) ≤ 32768
+  unfolding frameWords
+  few-words r =
+      let n = subframes-view b in
+      let m = sum-most 1024 (subframes (view b)) (λ i. subframe (view b) i .words)
+      (λ i l. let o : i < subframesIn b = omega (arith, n) in let w = words-are i o in let v = narrow-there i o (r .subframes) in omega (arith, w, v .words)) in
+      omega (arith, m, n, r .laid .head .sized)
+
+  module _ (k : ℕ) (r : SubframesLaw b) (c : ComponentLaw (subframesOf b) (componentAt b k)) where
+    pub inside : Inside b k
+    unfolding componentAt
+    inside =
+        let n = subframes-view b in
+        let h : homeIn b k ≤ subframesIn b = omega (arith, c, n) in
+        let o : homeIn b k - 1 < subframesIn b = omega (arith, c) in
+        let s = narrow-there (homeIn b k - 1) o r in
+        let w = home-words b k (c .someHome) h in
+        let v = home-bits b k (c .someHome) h in
+        record {
+          someHome = c .someHome;
+          declared = h;
+          someWord = c .someWord;
+          fewWords = omega (arith, c .word, w, s .words);
+          someBit = c .someBit;
+          rising = c .rising;
+          fewBits = omega (arith, c .inWord, v, s .bits);
+        }
+
+    pub component-there : componentBegins (view b) (componentAt b k) ≡ wordsBegin (view b) (homeIn b k - 1) + (wordIn b k - 1) * bitsIn b (homeIn b k - 1) + (lowIn b k - 1)
+    unfolding componentBegins wordBegins componentAt
+    component-there =
+        let o : homeIn b k - 1 < subframesIn b = omega (arith, inside) in
+        rw (bits-are (homeIn b k - 1) o)

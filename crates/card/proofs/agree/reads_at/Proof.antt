@@ -1,0 +1,50 @@
+-- An identifier's raw value is joined from the stream.
+use mathlib.Core.Path.{_≡_, sym, ap, ap₂, _∙_}
+use denote.Ref.{now}
+use Prim.Native.Nat.{ℕ, _+_, _/_}
+use native.Mathlib.Omega.{arith}
+use borrow.Author.Tests.{eq-eqb, ne-eqb}
+use lib.Dec.{eqb}
+use Rattle.model.specs.Stored.{firstSampleIn}
+use Rattle.model.specs.View.{view}
+use Rattle.framing.proofs.Listed.{listed-at, first-one, here-at, law-at, joined-read}
+use Rattle.carding.specs.Layout.{frameAt}
+use Rattle.carding.proofs.Agreeing.{plain-reads, identifier-reads}
+use borrow.Author.Needs.{needs}
+use Rattle.card.proofs.agree.reads_at.Statement.{statement}
+use Rattle.card.proofs.agree.reads_at.Tie as tie
+
+parameter-at-requires : tie.Need-parameter-at-requires
+parameter-at-requires c κs = search needs
+
+returns : tie.Need-returns
+returns c =
+    let s = c .before .before .before .before .before in
+    let l = s .pre .1 .1 .0 in
+    sym (plain-reads _ _ _ l (ne-eqb _ _ (λ x. c .if1 .taken (ap (λ (y : ℕ). y / 2) (c .before .before .parameter-at .ensures .flags-is) ∙ x))))
+
+joined-in-requires : tie.Need-joined-in-requires
+joined-in-requires c κs =
+    let s = c .before .before .before .before .before in
+    let t = now (s .args .t) in
+    let i = s .args .i in
+    let m = listed-at t i 0 (s .pre .0) (s .pre .1 .1 .0) (first-one t i (s .pre .0) (s .pre .1 .1 .0)) in
+    let q : c .before .before .parameter-at .result .first ≡ firstSampleIn t i + 0 = omega (arith, c .before .before .parameter-at .ensures) in
+    (s .pre .0, (s .pre .1 .0, (here-at t i 0 m q, (law-at t i 0 m q, s .pre .1 .1 .1))))
+
+returns-2 : tie.Need-returns-2
+returns-2 c =
+    let s = c .before .before .before .before .before .before .before in
+    let t = now (s .args .t) in
+    let i = s .args .i in
+    let l = s .pre .1 .1 .0 in
+    let e = c .before .before .before .before .parameter-at .ensures in
+    let m = listed-at t i 0 (s .pre .0) l (first-one t i (s .pre .0) l) in
+    let q : c .before .before .before .before .parameter-at .result .first ≡ firstSampleIn t i + 0 = omega (arith, e) in
+    let f = frameAt (view t) (now (s .args .stream)) (s .args .p) in
+    let raw = joined-read t i 0 m q f (c .before .joined-in .result) (c .before .joined-in .ensures) .raw in
+    ap₂ eqb raw (e .value-is)
+    ∙ sym (identifier-reads t f i l (eq-eqb _ _ (sym (ap (λ (x : ℕ). x / 2) (e .flags-is)) ∙ c .before .before .if1 .left)))
+
+pub reads-at-spec : {M : Type 1} → statement M
+reads-at-spec = tie.close (tie.spec parameter-at-requires returns joined-in-requires returns-2)

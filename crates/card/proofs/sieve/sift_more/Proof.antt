@@ -1,0 +1,119 @@
+-- The rest of the identifier's value is what is left of its components.
+use mathlib.Core.Path.{_≡_, refl, sym, ap, _∙_, subst}
+use denote.Ref.{now}
+use Prim.Native.Nat.{ℕ, _+_, _-_, _/_, _^_, _<_}
+use native.Mathlib.Omega.{arith}
+use borrow.Author.Tests.{eq-eqb}
+use Rattle.model.specs.Stored.{firstSampleIn, firstComponentIn, componentCountIn, componentsIn}
+use Rattle.framing.proofs.Listed.{listed-at, first-one, here-at, pieces-here}
+use Rattle.card.specs.Sieve.{rowsOf}
+use Rattle.card.proofs.Sieves.{Sifting, law-here, sifting-more, value-joined}
+use borrow.Author.Needs.{needs}
+use Rattle.card.proofs.sieve.sift_more.Statement.{statement}
+use Rattle.card.proofs.sieve.sift_more.Tie as tie
+
+abbrev Inv-loop : tie.InvT-loop
+Inv-loop t i begins first count s₀ rest₀ k₀ s rest k = Sifting t (firstSampleIn t i) (rowsOf s) first count rest k
+
+abbrev μ-loop : tie.MeasureT-loop
+μ-loop t i begins first count s₀ rest₀ k₀ s rest k = count - k
+
+parameter-at-requires : tie.Need-parameter-at-requires Inv-loop μ-loop
+parameter-at-requires c κs = search needs
+
+returns : tie.Need-returns Inv-loop μ-loop
+returns c = c .before .before .before .before .pre .1 .1 .1
+
+sample-at-requires : tie.Need-sample-at-requires Inv-loop μ-loop
+sample-at-requires c κs =
+    let s = c .before .before .before .before in
+    let b = now (s .args .t) in
+    let i = s .args .i in
+    let l = s .pre .1 .1 .0 in
+    let m = listed-at b i 0 (s .pre .0) l (first-one b i (s .pre .0) l) in
+    let e = c .before .before .parameter-at .ensures in
+    let q : c .before .before .parameter-at .result .first ≡ firstSampleIn b i + 0 = omega (arith, e) in
+    (s .pre .0 .laid .head .sized, here-at b i 0 m q .here)
+
+loop-holds : tie.Need-loop-holds Inv-loop μ-loop
+loop-holds c =
+    let s = c .before .before .before .before .before in
+    let b = now (s .args .t) in
+    let i = s .args .i in
+    let l = s .pre .1 .1 .0 in
+    let m = listed-at b i 0 (s .pre .0) l (first-one b i (s .pre .0) l) in
+    let e = c .before .before .before .parameter-at .ensures in
+    let q : firstSampleIn b i ≡ firstSampleIn b i + 0 = omega arith in
+    let is = c .sample-at .ensures in
+    let flag = eq-eqb _ _ (sym (ap (λ (x : ℕ). x / 2) (e .flags-is)) ∙ c .before .if1 .left) in
+    record {
+      firsts = is .first-is ∙ ap (firstComponentIn b) (e .first-is);
+      counted = is .count-is ∙ ap (componentCountIn b) (e .first-is);
+      inside = omega arith;
+      here = pieces-here b i 0 m q;
+      sieve = s .pre .1 .1 .1;
+      left-is = λ y p h. value-joined b i (s .pre .0) l flag y p h ∙ sym (e .value-is);
+    }
+
+add-run-at : tie.Need-add-run-at Inv-loop μ-loop
+add-run-at c = search needs
+
+run-at-requires : tie.Need-run-at-requires Inv-loop μ-loop
+run-at-requires c κs =
+    let s = c .before .before .before .before .before .before .before in
+    let b = now (s .args .t) in
+    let i = s .args .i in
+    let l = s .pre .1 .1 .0 in
+    let m = listed-at b i 0 (s .pre .0) l (first-one b i (s .pre .0) l) in
+    let e = c .before .before .before .before .before .parameter-at .ensures in
+    let v = c .before .loop .inv in
+    let t = c .loop-test .taken in
+    let q : firstSampleIn b i ≡ firstSampleIn b i + 0 = omega arith in
+    (s .pre .0 .laid .head .sized, (omega (arith, v, t, here-at b i 0 m q), (s .pre .0 .subframes, (s .pre .1 .0, law-here v t))))
+
+power-of-two-requires : tie.Need-power-of-two-requires Inv-loop μ-loop
+power-of-two-requires c κs = omega (arith, c .run-at .ensures .few)
+
+rem-with : tie.Need-rem-with Inv-loop μ-loop
+rem-with c = search needs
+
+with-requires : tie.Need-with-requires Inv-loop μ-loop
+with-requires c κs =
+    let e = c .before .run-at .ensures in
+    (c .before .before .before .loop .inv .sieve .shaped, (e .small, e .few))
+
+div-rest : tie.Need-div-rest Inv-loop μ-loop
+div-rest c = search needs
+
+add-k : tie.Need-add-k Inv-loop μ-loop
+add-k c = search needs
+
+loop-less : tie.Need-loop-less Inv-loop μ-loop
+loop-less c = omega (arith, c .before .before .before .before .loop .inv, c .before .before .before .loop-test .taken)
+
+loop-again : tie.Need-loop-again Inv-loop μ-loop
+loop-again c = sifting-more (c .before .before .before .before .loop .inv) (c .before .before .before .loop-test .taken) (c .before .before .run-at .ensures) (c .before .power-of-two .ensures .is) (c .with .ensures)
+
+returns-2 : tie.Need-returns-2 Inv-loop μ-loop
+returns-2 c = c .before .loop .inv .sieve
+
+pub sift-more-spec : {M : Type 1} → statement M
+sift-more-spec =
+    tie.close
+    (tie.spec
+    Inv-loop
+    μ-loop
+    parameter-at-requires
+    returns
+    sample-at-requires
+    loop-holds
+    add-run-at
+    run-at-requires
+    power-of-two-requires
+    rem-with
+    with-requires
+    div-rest
+    add-k
+    loop-less
+    loop-again
+    returns-2)

@@ -1,0 +1,83 @@
+// A card read, with its refusals: "after 18, 27 for a table without parameters; 38 for a longer stream; then 25 exactly when
+// no such position exists; then 28 for a lent word slice too short; words beyond the frame stay".
+ghost use mathlib.Core.Path.{_≡_};
+ghost use Prim.Native.Nat.{_≤_, _<_};
+ghost use lib.ListN.{length};
+ghost use Rattle.model.specs.View.{view};
+ghost use Rattle.rules.specs.Ruled.{Ruled};
+ghost use Rattle.carding.specs.Answer.{searched, handedFor, cardedOf, handedOf, cardedNumber, bitsOfFrame};
+use super::hand::hand_out;
+use super::search::position_from;
+use super::spans::span_of;
+use carding::carded::Carded;
+use frame::fit::frame_words;
+use stored::items::counts_of;
+use table::check::is_table;
+
+// 25, 28, or the frame's words handed out.
+fn search(t: &[u8], stream: &[u8], from: usize, words: &mut [u16]) -> Carded
+    requires { ⌜ Ruled (now t) ⌝ }
+    requires { ⌜ (length (now stream) ≤ 65536) × (from < 4294967296) ⌝ }
+    ensures { λ r. ⌜ (r ≡ searched (view (now (t .entry))) (now (stream .entry)) from (now (words .entry))) × (now (words .exit) ≡ handedFor (view (now (t .entry))) (now (stream .entry)) (now (words .entry)) r) ⌝ }
+{
+    let s = span_of(t);
+    let begins = s.begins;
+    let position = position_from(t, stream, from, &begins, s.bits);
+    if 8 * stream.len() < position {
+        return Carded::NoFrame;
+    }
+    let count = frame_words(t);
+    if words.len() < count {
+        return Carded::FewWords;
+    }
+    hand_out(t, stream, position, &begins, words);
+    Carded::Found {
+        position: position as u32,
+        count: count as u32,
+    }
+}
+
+// The first frame at or behind bit `from`; its words stand in front of what the words had behind them.
+pub fn card_from(t: &[u8], stream: &[u8], from: u32, words: &mut [u16]) -> Carded
+    ensures { λ r. ⌜ (r ≡ cardedOf (now (t .entry)) (now (stream .entry)) from (now (words .entry))) × (now (words .exit) ≡ handedOf (now (t .entry)) (now (stream .entry)) from (now (words .entry))) ⌝ }
+{
+    if !is_table(t) {
+        return Carded::NoTable;
+    }
+    let n = counts_of(t);
+    if n.parameters == 0 {
+        return Carded::NoParameters;
+    }
+    if 65536 < stream.len() {
+        return Carded::LongStream;
+    }
+    search(t, stream, from as usize, words)
+}
+
+// 02's number of the answer; 0 for a frame.
+pub fn card_number(r: Carded) -> u32
+    ensures { λ n. ⌜ n ≡ cardedNumber r ⌝ }
+{
+    match r {
+        Carded::Found {
+            position: _,
+            count: _,
+        } => 0,
+        Carded::NoTable => 18,
+        Carded::NoParameters => 27,
+        Carded::LongStream => 38,
+        Carded::NoFrame => 25,
+        Carded::FewWords => 28,
+    }
+}
+
+// How many bits a frame has, its margins too; 0 where the bytes are no table.
+pub fn frame_bits(t: &[u8]) -> u32
+    ensures { λ r. ⌜ r ≡ bitsOfFrame (now (t .entry)) ⌝ }
+{
+    if !is_table(t) {
+        return 0;
+    }
+    let s = span_of(t);
+    s.bits as u32
+}

@@ -1,0 +1,7 @@
+// Quick access cards: a frame found in a stream of bits, and its words handed out.
+pub mod agree;
+pub mod card;
+pub mod hand;
+pub mod search;
+pub mod sieve;
+pub mod spans;

@@ -1,0 +1,62 @@
+-- Cards by example: the wall's sheet with margins, "12,4,3,1,1.0", and its words 583, 5, 0, 6 behind four bits. Assumes nothing.
+use mathlib.Core.Path.{_≡_, refl}
+use mathlib.Core.Bool.{true, false}
+use mathlib.Core.List.{List, [], _∷_}
+use Prim.Native.Nat.{ℕ}
+use Rattle.bits.specs.Word.{bitAt, field}
+use Rattle.lay.specs.Bytes.{put}
+use Rattle.sample.specs.Joining.{partOf, join}
+use Rattle.sample.specs.Source.{placesFrom, places, gather}
+use Rattle.sample.specs.Flat.{sum, before, position}
+use Rattle.model.specs.Content.{Content}
+use Rattle.model.specs.Samples.{wordCounts, piece, pieces}
+use Rattle.model.specs.Frame.{frameWords}
+use Rattle.model.specs.Wall.{sync, pitch}
+use Rattle.stream.specs.Stream.{streamBit, bitsFrom}
+use Rattle.framing.specs.Reading.{rawOf}
+use Rattle.framing.specs.Comparing.{differsAt, differsIn, comparedIn, comparedNumber}
+use Rattle.carding.specs.declared.carded.Carded.the-variants.{Found, NoFrame, FewWords}
+use Rattle.carding.specs.Layout.{subframeBits, bitsBefore, wordsBegin, wordBegins, wordIn, frameAt, begins, sourceAt, rawAt}
+use Rattle.carding.specs.Search.{wholeAt, agreesAt, positionFrom, foundFrom}
+use Rattle.carding.specs.Answer.{searched, cardedIn, handedFor}
+use Rattle.carding.specs.Writing.{Margins, packed, lowBits, rowBits, subframeStream, frameStream, written}
+
+abbrev pub margined : Content
+margined =
+    record {
+      sequential = true;
+      subframes = record { bits = 12; words = 4; leading = 3; trailing = 1; numerator = 1; denominator = 1 } ∷ [];
+      parameters = sync ∷ pitch ∷ [];
+    }
+
+-- a0 23 29 00 00 30 80: four bits, three leading ones, 583, 5, 0, 6, one trailing
+abbrev pub stream : List ℕ
+stream = 160 ∷ 35 ∷ 41 ∷ 0 ∷ 0 ∷ 48 ∷ 128 ∷ []
+
+pub found : cardedIn margined stream 0 (1 ∷ 2 ∷ 3 ∷ 4 ∷ 5 ∷ []) ≡ Found 4 4
+unfolding cardedIn searched foundFrom positionFrom wholeAt agreesAt comparedNumber comparedIn differsIn differsAt rawOf frameWords join partOf pieces piece wordCounts position before sum frameAt wordIn wordBegins wordsBegin bitsBefore subframeBits bitsFrom streamBit bitAt field
+found = refl
+
+-- words beyond the frame stay
+pub handed : handedFor margined stream (1 ∷ 2 ∷ 3 ∷ 4 ∷ 5 ∷ []) (Found 4 4) ≡ 583 ∷ 5 ∷ 0 ∷ 6 ∷ 5 ∷ []
+unfolding handedFor put frameAt wordIn wordBegins wordsBegin bitsBefore subframeBits bitsFrom streamBit bitAt
+handed = refl
+
+-- Pitch straight from the stream: raw 53
+pub pitch-straight : rawAt margined stream 4 1 0 ≡ 53
+unfolding rawAt sourceAt begins gather places placesFrom pieces piece wordCounts position before sum wordBegins wordsBegin bitsBefore subframeBits streamBit bitAt
+pitch-straight = refl
+
+-- one bit later there is none: 25; and 28 with three words lent
+pub later : cardedIn margined stream 5 (1 ∷ 2 ∷ 3 ∷ 4 ∷ []) ≡ NoFrame
+unfolding cardedIn searched foundFrom positionFrom wholeAt agreesAt comparedNumber comparedIn differsIn differsAt rawOf frameWords join partOf pieces piece wordCounts position before sum frameAt wordIn wordBegins wordsBegin bitsBefore subframeBits bitsFrom streamBit bitAt field
+later = refl
+
+pub few : cardedIn margined stream 0 (1 ∷ 2 ∷ 3 ∷ []) ≡ FewWords
+unfolding cardedIn searched foundFrom positionFrom wholeAt agreesAt comparedNumber comparedIn differsIn differsAt rawOf frameWords join partOf pieces piece wordCounts position before sum frameAt wordIn wordBegins wordsBegin bitsBefore subframeBits bitsFrom streamBit bitAt field
+few = refl
+
+-- the stream is what is written of these words behind four zeros, with the margins 2 and 1
+pub written-so : written margined (record { leading = λ i. 2; trailing = λ i. 1 }) (583 ∷ 5 ∷ 0 ∷ 6 ∷ []) 4 0 0 0 ≡ stream
+unfolding written packed frameStream subframeStream rowBits lowBits wordCounts before sum bitAt
+written-so = refl

@@ -1,0 +1,53 @@
+-- Where a frame's bits stand in a card's stream: "A subframe is its leading bits, words, trailing bits." Positions count bits
+-- from 0, and subframes and words are counted from 0 here. A frame at position p has its first bit there, the first leading one.
+use mathlib.Core.List.{List}
+use Prim.Native.Nat.{ℕ, _+_, _-_, _*_}
+use lib.ListN.{getD}
+use Rattle.lay.specs.Below.{sum, tab, flat}
+use Rattle.sample.specs.Source.{Source, gather, places}
+use Rattle.model.specs.Content.{Content, Component, Subframe, subframe, subframes, parameter, sample}
+use Rattle.model.specs.Samples.{pieces}
+use Rattle.stream.specs.Stream.{streamBit, bitsFrom}
+
+unfoldable pub subframeBits : Subframe → ℕ
+subframeBits s = s .leading + s .words * s .bits + s .trailing
+
+-- how many bits of a frame stand before subframe i, and how many a frame has
+unfoldable pub bitsBefore : Content → ℕ → ℕ
+bitsBefore c i = sum i (λ k. subframeBits (subframe c k))
+
+abbrev pub frameBits : Content → ℕ
+frameBits c = bitsBefore c (subframes c)
+
+-- where the words of subframe i begin, and where its word w does, counted from the frame's first bit
+unfoldable pub wordsBegin : Content → ℕ → ℕ
+wordsBegin c i = bitsBefore c i + subframe c i .leading
+
+unfoldable pub wordBegins : Content → ℕ → ℕ → ℕ
+wordBegins c i w = wordsBegin c i + w * subframe c i .bits
+
+-- word w of subframe i of the frame at p: "the low bit .. of each word first"
+unfoldable pub wordIn : Content → List ℕ → ℕ → ℕ → ℕ → ℕ
+wordIn c y p i w = bitsFrom y (p + wordBegins c i w) (subframe c i .bits)
+
+-- the frame at p: "all words of subframe 1, then 2, and so on"
+unfoldable pub frameAt : Content → List ℕ → ℕ → List ℕ
+frameAt c y p = flat (subframes c) (λ i. tab (subframe c i .words) (wordIn c y p i))
+
+-- ---- a sample read straight from the stream, no word cut out
+
+-- where each word of a frame begins, in the frame's order
+unfoldable pub begins : Content → List ℕ
+begins c = flat (subframes c) (λ i. tab (subframe c i .words) (wordBegins c i))
+
+-- the frame at p as a source of bits
+unfoldable pub sourceAt : Content → List ℕ → ℕ → Source
+sourceAt c y p q = streamBit y (p + getD (begins c) (q .word) 0 + q .bit)
+
+-- sample j of parameter i, joined where its bits stand; that the frame at p gives the same is proved (proofs/Straight.antt)
+unfoldable pub rawAt : Content → List ℕ → ℕ → ℕ → ℕ → ℕ
+rawAt c y p i j = gather (sourceAt c y p) (places (pieces (c .subframes) (sample (parameter c i) j)))
+
+-- where a component begins, counted from the frame's first bit; its subframe, word and bits count from 1
+unfoldable pub componentBegins : Content → Component → ℕ
+componentBegins c d = wordBegins c (d .subframe - 1) (d .word - 1) + (d .low - 1)

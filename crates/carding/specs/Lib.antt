@@ -1,0 +1,4 @@
+pub mod Layout
+pub mod Search
+pub mod Answer
+pub mod Writing

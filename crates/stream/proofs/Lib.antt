@@ -1,0 +1,4 @@
+pub mod Sums
+pub mod Streams
+pub mod Skipping
+pub mod Examples

@@ -1,0 +1,38 @@
+// A stream of bits: "the low bit of each byte .. first".
+pub mod skip;
+
+ghost use mathlib.Core.Path.{_≡_};
+ghost use Prim.Native.Nat.{_≤_, _<_, _^_};
+ghost use lib.ListN.{getD};
+ghost use Rattle.stream.specs.Stream.{bitsFrom, Window};
+
+// The byte at i, or 0 beyond the end.
+fn byte_or_zero(stream: &[u8], i: usize) -> u64
+    ensures { λ r. ⌜ (r ≡ getD (now (stream .entry)) i 0) × (r < 256) ⌝ }
+{
+    if i < stream.len() {
+        return stream[i] as u64;
+    }
+    0
+}
+
+// The bytes from a on: four at once where there are so many, which is one load; else three, zeros beyond the end.
+fn window_at(stream: &[u8], a: usize) -> u64
+    requires { ⌜ a < 2305843009213693952 ⌝ }
+    ensures { λ r. ⌜ Window 3 (now (stream .entry)) a r ⌝ }
+{
+    if a + 4 <= stream.len() {
+        return lay::four_at(stream, a) as u64;
+    }
+    byte_or_zero(stream, a)
+        + 256 * byte_or_zero(stream, a + 1)
+        + 65536 * byte_or_zero(stream, a + 2)
+}
+
+// The number of n bits that stands in the stream from bit k on: 24 bits hold any 16 of them from any bit of a byte on.
+pub fn bits_at(stream: &[u8], k: usize, n: u32) -> u64
+    requires { ⌜ n ≤ 16 ⌝ }
+    ensures { λ r. ⌜ (r ≡ bitsFrom (now (stream .entry)) k n) × (r < 2 ^ n) ⌝ }
+{
+    bits::field_of(window_at(stream, k / 8), (k % 8) as u32, n)
+}
