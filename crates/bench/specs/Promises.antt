@@ -15,6 +15,8 @@ use Rattle.framing.specs.Comparing.{comparedOf, comparedNumber}
 use Rattle.framing.specs.declared.read.Reading.{Reading}
 use Rattle.framing.specs.declared.place.Placed.{Placed}
 use Rattle.framing.specs.declared.compare.Compared.{Compared}
+use Rattle.carding.specs.Answer.{cardedOf, handedOf, cardedNumber, bitsOfFrame}
+use Rattle.carding.specs.declared.carded.Carded.{Carded}
 
 -- ---- a sheet
 
@@ -67,3 +69,15 @@ Compares table words compared = compared ≡ comparedOf table words
 
 abbrev pub CompareNumbered : Compared → ℕ → Type 0
 CompareNumbered compared n = n ≡ comparedNumber compared
+
+-- ---- a card: table, stream, the bit to begin at, lent words; answer, the words afterwards
+
+abbrev pub Cards : List ℕ → List ℕ → ℕ → List ℕ → Carded → List ℕ → Type 0
+Cards table stream from words carded after =
+    (carded ≡ cardedOf table stream from words) × (after ≡ handedOf table stream from words)
+
+abbrev pub CardNumbered : Carded → ℕ → Type 0
+CardNumbered carded n = n ≡ cardedNumber carded
+
+abbrev pub FrameBits : List ℕ → ℕ → Type 0
+FrameBits table n = n ≡ bitsOfFrame table
