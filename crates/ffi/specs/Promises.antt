@@ -9,11 +9,13 @@ use Rattle.table.specs.Answers.{checkOf, checkNumber, askedNumber, askedMnemoni
 use Rattle.framing.specs.Reading.{readOf}
 use Rattle.framing.specs.Placing.{placeOf, placedOf, placeNumber}
 use Rattle.framing.specs.Comparing.{comparedOf}
-use Rattle.ffi.specs.Structs.{madeOut, nameOut, sampleOut, comparedOut}
+use Rattle.carding.specs.Answer.{cardedOf, handedOf, bitsOfFrame}
+use Rattle.ffi.specs.Structs.{madeOut, nameOut, sampleOut, comparedOut, cardedOut}
 use Rattle.ffi.specs.declared.sheets.OrbMade.{OrbMade}
 use Rattle.ffi.specs.declared.tables.OrbName.{OrbName}
 use Rattle.ffi.specs.declared.frames.OrbSample.{OrbSample}
 use Rattle.ffi.specs.declared.frames.OrbCompared.{OrbCompared}
+use Rattle.ffi.specs.declared.cards.OrbCarded.{OrbCarded}
 
 -- sheet, lent bytes; answer, the bytes afterwards
 abbrev pub MakesOut : List ℕ → List ℕ → OrbMade → List ℕ → Type 0
@@ -41,3 +43,11 @@ PlacesOut table words parameter sample value n after =
 
 abbrev pub ComparesOut : List ℕ → List ℕ → OrbCompared → Type 0
 ComparesOut table words r = r ≡ comparedOut (comparedOf table words)
+
+-- table, stream, the bit to begin at, lent words; answer, the words afterwards
+abbrev pub CardsOut : List ℕ → List ℕ → ℕ → List ℕ → OrbCarded → List ℕ → Type 0
+CardsOut table stream from words r after =
+    (r ≡ cardedOut (cardedOf table stream from words)) × (after ≡ handedOf table stream from words)
+
+abbrev pub FrameBitsOut : List ℕ → ℕ → Type 0
+FrameBitsOut table n = n ≡ bitsOfFrame table

@@ -1,4 +1,4 @@
--- The structs that C sees: one definition each, of what the bench answers. The number is 01's.
+-- The structs that C sees: one definition each, of what the bench answers. The number is 01's or 02's.
 use Prim.Native.Nat.{ℕ}
 use mathlib.Core.List.{List}
 use lib.IntN.{pos}
@@ -14,10 +14,14 @@ use Rattle.framing.specs.declared.read.Reading.{Reading}
 use Rattle.framing.specs.declared.read.Reading.the-variants as reading
 use Rattle.framing.specs.declared.compare.Compared.{Compared}
 use Rattle.framing.specs.declared.compare.Compared.the-variants as compared
+use Rattle.carding.specs.Answer.{cardedNumber}
+use Rattle.carding.specs.declared.carded.Carded.{Carded}
+use Rattle.carding.specs.declared.carded.Carded.the-variants.{Found, NoTable, NoParameters, LongStream, NoFrame, FewWords}
 use Rattle.ffi.specs.declared.sheets.OrbMade.{OrbMade}
 use Rattle.ffi.specs.declared.tables.OrbName.{OrbName}
 use Rattle.ffi.specs.declared.frames.OrbSample.{OrbSample}
 use Rattle.ffi.specs.declared.frames.OrbCompared.{OrbCompared}
+use Rattle.ffi.specs.declared.cards.OrbCarded.{OrbCarded}
 
 -- ---- a sheet
 
@@ -54,3 +58,17 @@ differing compared.HighWord = 0
 
 unfoldable pub comparedOut : Compared → OrbCompared
 comparedOut c = record { number = comparedNumber c; subframe = differing c }
+
+-- ---- a card
+
+-- position and words, both 0 where refused
+abbrev pub refusedOut : ℕ → OrbCarded
+refusedOut n = record { number = n; position = 0; count = 0 }
+
+unfoldable pub cardedOut : Carded → OrbCarded
+cardedOut (Found p n) = record { number = cardedNumber (Found p n); position = p; count = n }
+cardedOut NoTable = refusedOut (cardedNumber NoTable)
+cardedOut NoParameters = refusedOut (cardedNumber NoParameters)
+cardedOut LongStream = refusedOut (cardedNumber LongStream)
+cardedOut NoFrame = refusedOut (cardedNumber NoFrame)
+cardedOut FewWords = refusedOut (cardedNumber FewWords)
