@@ -12,16 +12,9 @@ use Rattle.lay.proofs.Below.{find-holds, find-least}
 use Rattle.lay.proofs.Tests.{and-0, and-1, and-both, differ}
 use Rattle.model.specs.Content.{Content}
 use Rattle.carding.specs.Layout.{frameBits}
-use Rattle.carding.specs.Search.{wholeAt, agreesAt, soughtAt, positionFrom, foundFrom}
+use Rattle.carding.specs.Search.{wholeAt, agreesAt, soughtAt, positionFrom, foundFrom, FirstFrame}
 
 module _ (c : Content) (y : List ℕ) (from : ℕ) where
-  -- "the first bit position at which a whole frame fits and every record identifier agrees"
-  pub record First (p : ℕ) : Type 0 where
-    pub after : from ≤ p
-    pub whole : wholeAt c y p ≡ true
-    pub agrees : agreesAt c y p ≡ true
-    pub none-earlier : (k : ℕ) → from ≤ k → k < p → wholeAt c y k ≡ true → agreesAt c y k ≡ true → ⊥
-
   -- a position that is sought is not before the answered one
   pub found-by : (p : ℕ) → from ≤ p → wholeAt c y p ≡ true → agreesAt c y p ≡ true → positionFrom c y from ≤ p
   unfolding positionFrom wholeAt
@@ -29,7 +22,7 @@ module _ (c : Content) (y : List ℕ) (from : ℕ) where
       let l : p + frameBits c ≤ 8 * length y = leb-true _ _ w in
       find-least (8 * length y + 1) (soughtAt c y from) p (omega arith) (and-both (le-leb from p a) (and-both w g))
 
-  pub found-first : foundFrom c y from ≡ true → First (positionFrom c y from)
+  pub found-first : foundFrom c y from ≡ true → FirstFrame c y from (positionFrom c y from)
   unfolding foundFrom positionFrom
   found-first h =
       let l : find (8 * length y + 1) (soughtAt c y from) ≤ 8 * length y = leb-true _ _ h in
@@ -52,7 +45,7 @@ module _ (c : Content) (y : List ℕ) (from : ℕ) where
   none-found h p a w g = differ h (some-found p a w g)
 
   -- no other position is the first
-  pub first-is : (p : ℕ) → First p → p ≡ positionFrom c y from
+  pub first-is : (p : ℕ) → FirstFrame c y from p → p ≡ positionFrom c y from
   first-is p f =
       let found = found-first (some-found p (f .after) (f .whole) (f .agrees)) in
       let least = found-by p (f .after) (f .whole) (f .agrees) in

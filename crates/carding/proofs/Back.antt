@@ -20,7 +20,7 @@ use Rattle.model.specs.Samples.{wordCounts}
 use Rattle.model.specs.Frame.{frameWords, meets}
 use Rattle.model.proofs.Frames.{Meets, meets-law}
 use Rattle.framing.specs.Comparing.{comparedIn, comparedNumber}
-use Rattle.carding.specs.Layout.{subframeBits, bitsBefore, wordsBegin, wordBegins, wordIn, frameAt}
+use Rattle.carding.specs.Layout.{subframeBits, bitsBefore, frameBits, wordsBegin, wordBegins, wordIn, frameAt, Carries}
 use Rattle.carding.specs.Writing.{Margins, packed, lowBits, rowBits, subframeStream, frameStream, written}
 use Rattle.carding.specs.Search.{wholeAt, agreesAt, soughtAt, positionFrom}
 use Rattle.carding.proofs.Frames.{before-sum}
@@ -34,29 +34,24 @@ module _ (c : Content) (f : List ℕ) where
   abbrev pub word : ℕ → ℕ → ℕ
   word i w = getD f (before (wordCounts (c .subframes)) (i + 1) + w) 0
 
-  -- bit j of word w of subframe i is the stream's bit at its place
-  pub record Carries (y : List ℕ) (p : ℕ) : Type 0 where
-    pub whole : p + bitsBefore c (subframes c) ≤ 8 * length y
-    pub bit : (i w j : ℕ) → i < subframes c → w < subframe c i .words → j < subframe c i .bits → streamBit y (p + wordBegins c i w + j) ≡ bitAt (word i w) j
-
-  module _ (h : meets c f ≡ true) {y : List ℕ} {p : ℕ} (k : Carries y p) where
+  module _ {y : List ℕ} {p : ℕ} (k : Carries c y p f) where
     carried-word : (i w : ℕ) → i < subframes c → w < subframe c i .words → wordIn c y p i w ≡ word i w
     unfolding wordIn bitsFrom field
     carried-word i w l m =
         let b = subframe c i .bits in
         let x = word i w in
         sum-same b _ (λ j. bitAt x (0 + j) * 2 ^ j)
-        (λ j o. ap (λ (z : ℕ). z * 2 ^ j) (k .bit i w j l m o ∙ ap (bitAt x) (sym (zero-add j))))
+        (λ j o. ap (λ (z : ℕ). z * 2 ^ j) (sym (k .bit i w j l m o) ∙ ap (bitAt x) (sym (zero-add j))))
         ∙ sym (field-summed x 0 b)
         ∙ ap (λ (z : ℕ). z % 2 ^ b) (div-one x)
-        ∙ mod-eq-of-lt (meets-law c f h .below i w l m)
+        ∙ mod-eq-of-lt (meets-law c f (k .fits) .below i w l m)
 
     -- it has that frame there, and no other
     pub carried : frameAt c y p ≡ f
     unfolding frameAt frameWords
     carried =
         let n = frameWords c in
-        let long = meets-law c f h .long in
+        let long = meets-law c f (k .fits) .long in
         flat-same (subframes c) _ (λ i. tab (subframe c i .words) (λ w. getD f (sum i (λ k. subframe c k .words) + w) 0))
         (λ i l. tab-same (subframe c i .words) _ _ (λ w m. carried-word i w l m ∙ ap (λ (k : ℕ). getD f (k + w) 0) (before-sum c i (omega arith))))
         ∙ flat-tab (subframes c) (λ k. subframe c k .words) (λ k. getD f k 0)
@@ -64,10 +59,10 @@ module _ (c : Content) (f : List ℕ) where
         (λ k l. getD-tab n (λ k. getD f k 0) 0 k (omega (arith, l, length-tab n (λ k. getD f k 0))))
 
     -- and there, or earlier, a frame is found, if its identifiers agree
-    pub carried-found : comparedNumber (comparedIn c f) ≡ 0 → positionFrom c y 0 ≤ p
+    pub carried-found : p + frameBits c ≤ 8 * length y → comparedNumber (comparedIn c f) ≡ 0 → positionFrom c y 0 ≤ p
     unfolding wholeAt agreesAt
-    carried-found e =
-        found-by c y 0 p (omega arith) (le-leb _ _ (k .whole)) (eq-eqb _ _ (ap (λ (g : List ℕ). comparedNumber (comparedIn c g)) carried ∙ e))
+    carried-found l e =
+        found-by c y 0 p (omega arith) (le-leb _ _ l) (eq-eqb _ _ (ap (λ (g : List ℕ). comparedNumber (comparedIn c g)) carried ∙ e))
 
 -- ---- the card that is written of a frame
 
@@ -163,31 +158,35 @@ module _ (c : Content) (m : Margins) (f : List ℕ) where
         ∙ getD-append-add (lowBits k front) (frameStream c m f ++ lowBits n back) a 0
         ∙ List·getD-append (frameStream c m f) (lowBits n back) 0 a l
 
-    pub written-carries : Carries c f (written c m f k front n back) k
-    unfolding written packed wordBegins wordsBegin
-    written-carries =
-        record {
-          whole =
-              let a = length-append (lowBits k front) (frameStream c m f ++ lowBits n back) in
-              let b = length-append (frameStream c m f) (lowBits n back) in
-              let d = length-tab ((length all + 7) / 8) (λ i. sum 8 (λ j. getD all (8 * i + j) 0 * 2 ^ j)) in
-              omega (arith, a, b, d, low-long k front, stream-long);
-          bit = λ i w j l u o.
-              let at : ℕ = subframe c i .leading + (w * subframe c i .bits + j) in
-              let q : k + wordBegins c i w + j ≡ k + (bitsBefore c i + at) = omega arith in
-              packed-bit all
-              (bits-append (lowBits k front) _ (bits-low k front) (bits-append (frameStream c m f) _ (stream-bits c m f) (bits-low n back)))
-              (k + wordBegins c i w + j)
-              ∙ ap (λ (a : ℕ). getD all a 0) q
-              ∙ all-bit (bitsBefore c i + at) (in-frame i w j l u o)
-              ∙ frame-bit i w j l u o;
-        }
+    written-whole : k + frameBits c ≤ 8 * length (written c m f k front n back)
+    unfolding written packed
+    written-whole =
+        let a = length-append (lowBits k front) (frameStream c m f ++ lowBits n back) in
+        let b = length-append (frameStream c m f) (lowBits n back) in
+        let d = length-tab ((length all + 7) / 8) (λ i. sum 8 (λ j. getD all (8 * i + j) 0 * 2 ^ j)) in
+        omega (arith, a, b, d, low-long k front, stream-long)
 
-    -- "that frame's words": for every frame that meets the table, with any margins
+    written-bit : (i w j : ℕ) → i < subframes c → w < subframe c i .words → j < subframe c i .bits → streamBit (written c m f k front n back) (k + wordBegins c i w + j) ≡ bitAt (word c f i w) j
+    unfolding written wordBegins wordsBegin
+    written-bit i w j l u o =
+        let at : ℕ = subframe c i .leading + (w * subframe c i .bits + j) in
+        let q : k + wordBegins c i w + j ≡ k + (bitsBefore c i + at) = omega arith in
+        packed-bit all
+        (bits-append (lowBits k front) _ (bits-low k front) (bits-append (frameStream c m f) _ (stream-bits c m f) (bits-low n back)))
+        (k + wordBegins c i w + j)
+        ∙ ap (λ (a : ℕ). getD all a 0) q
+        ∙ all-bit (bitsBefore c i + at) (in-frame i w j l u o)
+        ∙ frame-bit i w j l u o
+
+    -- for every frame that meets the table, with any margins
     module _ (h : meets c f ≡ true) where
-      pub there-and-back : frameAt c (written c m f k front n back) k ≡ f
-      there-and-back = carried c f h written-carries
+      carries : Carries c (written c m f k front n back) k f
+      carries = record { fits = h; bit = λ i w j l u o. sym (written-bit i w j l u o) }
 
-      -- found there or earlier
+      -- "that frame's words"
+      pub there-and-back : frameAt c (written c m f k front n back) k ≡ f
+      there-and-back = carried c f carries
+
+      -- found there or earlier, so at the first bit where nothing stands before it
       pub written-found : comparedNumber (comparedIn c f) ≡ 0 → positionFrom c (written c m f k front n back) 0 ≤ k
-      written-found e = carried-found c f h written-carries e
+      written-found e = carried-found c f carries written-whole e

@@ -25,8 +25,8 @@ use Rattle.model.specs.View.{view}
 use Rattle.model.proofs.Views.{parameter-view}
 use Rattle.rules.specs.Ruled.{Ruled}
 use Rattle.framing.specs.Reading.{rawOf}
-use Rattle.carding.specs.Layout.{wordBegins, wordIn, frameAt, begins, sourceAt, rawAt}
-use Rattle.carding.proofs.Frames.{before-sum, frame-word}
+use Rattle.carding.specs.Layout.{wordBegins, wordIn, frameAt, begins, sourceAt, rawAt, Carries}
+use Rattle.carding.proofs.Frames.{before-sum, frame-word, frame-meets}
 
 -- ---- some component of a list names a bit
 
@@ -69,6 +69,10 @@ module _ (c : Content) (y : List ℕ) (p : ℕ) where
   frame-bit i w j l m o =
       ap (λ (x : ℕ). bitAt x j) (frame-word c y p i w l m) ∙ from-bit y (p + wordBegins c i w) (subframe c i .bits) j o
 
+  -- the frame at p carries them
+  pub frame-carries : Carries c y p (frameAt c y p)
+  frame-carries = record { fits = frame-meets c y p; bit = frame-bit }
+
   component-bit : (d : Component) → ComponentLaw (c .subframes) d → (q : Place) → Names (piece (c .subframes) d) q → sourceAt c y p q ≡ bitIn (frameAt c y p) q
   unfolding sourceAt piece position
   component-bit d r q n =
@@ -83,17 +87,25 @@ module _ (c : Content) (y : List ℕ) (p : ℕ) where
       ∙ sym (frame-bit i w (q .bit) l m (omega (arith, r, n .1, n .2)))
       ∙ ap (λ (k : ℕ). bitAt (getD (frameAt c y p) k 0) (q .bit)) here
 
-  pub sample-straight : {lim : Limits} (s : Sample) → SampleLaw lim (c .subframes) s → gather (sourceAt c y p) (places (pieces (c .subframes) s)) ≡ join (frameAt c y p) (pieces (c .subframes) s)
+  -- a bit that a sample names
+  pub named-bit : {lim : Limits} (s : Sample) → SampleLaw lim (c .subframes) s → (q : Place) → Named (pieces (c .subframes) s) q → sourceAt c y p q ≡ bitIn (frameAt c y p) q
   unfolding pieces
+  named-bit s r q h =
+      tab-named (length (s .components)) (λ k. piece (c .subframes) (component s k)) q _ (λ k l n. component-bit (component s k) (r .each k l) q n) h
+
+  pub sample-straight : {lim : Limits} (s : Sample) → SampleLaw lim (c .subframes) s → gather (sourceAt c y p) (places (pieces (c .subframes) s)) ≡ join (frameAt c y p) (pieces (c .subframes) s)
   sample-straight s r =
-      sources-agree (sourceAt c y p) (bitIn (frameAt c y p)) (pieces (c .subframes) s)
-      (λ q h. tab-named (length (s .components)) (λ k. piece (c .subframes) (component s k)) q _ (λ k l n. component-bit (component s k) (r .each k l) q n) h)
+      sources-agree (sourceAt c y p) (bitIn (frameAt c y p)) (pieces (c .subframes) s) (named-bit s r)
       ∙ sym (join-gather (frameAt c y p) (pieces (c .subframes) s))
 
 -- of a table that the check accepts, every sample
-pub straight : (b y : List ℕ) (p i j : ℕ) → Ruled b → i < parametersIn b → j < length (parameter (view b) i .samples) → rawAt (view b) y p i j ≡ rawOf (view b) (frameAt (view b) y p) i j
-unfolding rawAt rawOf
-straight b y p i j r l m = sample-straight (view b) y p (sample (parameter (view b) i) j) (law i j l m)
-  where
-    law : (i j : ℕ) → i < parametersIn b → j < length (parameter (view b) i .samples) → SampleLaw base (view b .subframes) (sample (parameter (view b) i) j)
-    law i j l m = rw (parameter-view b i l) (r .parameters .each i l .each j (subst (λ (q : Parameter). j < length (q .samples)) (parameter-view b i l) m))
+module _ (b y : List ℕ) (p i j : ℕ) (r : Ruled b) (l : i < parametersIn b) (m : j < length (parameter (view b) i .samples)) where
+  law : SampleLaw base (view b .subframes) (sample (parameter (view b) i) j)
+  law = rw (parameter-view b i l) (r .parameters .each i l .each j (subst (λ (q : Parameter). j < length (q .samples)) (parameter-view b i l) m))
+
+  pub straight : rawAt (view b) y p i j ≡ rawOf (view b) (frameAt (view b) y p) i j
+  unfolding rawAt rawOf
+  straight = sample-straight (view b) y p (sample (parameter (view b) i) j) law
+
+  pub straight-bit : (q : Place) → Named (pieces (view b .subframes) (sample (parameter (view b) i) j)) q → sourceAt (view b) y p q ≡ bitIn (frameAt (view b) y p) q
+  straight-bit = named-bit (view b) y p (sample (parameter (view b) i) j) law

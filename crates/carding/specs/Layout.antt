@@ -1,12 +1,17 @@
 -- Where a frame's bits stand in a card's stream: "A subframe is its leading bits, words, trailing bits." Positions count bits
 -- from 0, and subframes and words are counted from 0 here. A frame at position p has its first bit there, the first leading one.
+use mathlib.Core.Path.{_≡_}
+use mathlib.Core.Bool.{true}
 use mathlib.Core.List.{List}
-use Prim.Native.Nat.{ℕ, _+_, _-_, _*_}
+use Prim.Native.Nat.{ℕ, _+_, _-_, _*_, _<_}
 use lib.ListN.{getD}
+use Rattle.bits.specs.Word.{bitAt}
 use Rattle.lay.specs.Below.{sum, tab, flat}
+use Rattle.sample.specs.Flat.{before}
 use Rattle.sample.specs.Source.{Source, gather, places}
 use Rattle.model.specs.Content.{Content, Component, Subframe, subframe, subframes, parameter, sample}
-use Rattle.model.specs.Samples.{pieces}
+use Rattle.model.specs.Samples.{wordCounts, pieces}
+use Rattle.model.specs.Frame.{meets}
 use Rattle.stream.specs.Stream.{streamBit, bitsFrom}
 
 unfoldable pub subframeBits : Subframe → ℕ
@@ -33,6 +38,12 @@ wordIn c y p i w = bitsFrom y (p + wordBegins c i w) (subframe c i .bits)
 -- the frame at p: "all words of subframe 1, then 2, and so on"
 unfoldable pub frameAt : Content → List ℕ → ℕ → List ℕ
 frameAt c y p = flat (subframes c) (λ i. tab (subframe c i .words) (wordIn c y p i))
+
+-- f is a frame's words "equal to the stream's bits" from p on: bit j of word w of subframe i, and no word has a bit more
+pub record Carries (c : Content) (y : List ℕ) (p : ℕ) (f : List ℕ) : Type 0 where
+  pub fits : meets c f ≡ true
+  pub bit : (i w j : ℕ) → i < subframes c → w < subframe c i .words → j < subframe c i .bits
+      → bitAt (getD f (before (wordCounts (c .subframes)) (i + 1) + w) 0) j ≡ streamBit y (p + wordBegins c i w + j)
 
 -- ---- a sample read straight from the stream, no word cut out
 

@@ -1,7 +1,8 @@
 -- "Find the first bit position at which a whole frame fits and every record identifier agrees".
-use mathlib.Core.Bool.{Bool, _&&_, _||_, not}
+use mathlib.Core.Path.{_≡_}
+use mathlib.Core.Bool.{Bool, true, _&&_, _||_, not}
 use mathlib.Core.List.{List}
-use Prim.Native.Nat.{ℕ, _+_, _*_}
+use Prim.Native.Nat.{ℕ, _+_, _*_, _≤_, _<_}
 use lib.Dec.{eqb, leb}
 use lib.ListN.{length}
 use Rattle.lay.specs.Below.{find}
@@ -25,6 +26,13 @@ readsAt c f i = not (parameter c i .identifier) || eqb (rawOf c f i 0) (paramete
 -- such a position, at or after `from`
 abbrev pub soughtAt : Content → List ℕ → ℕ → ℕ → Bool
 soughtAt c y from p = leb from p && (wholeAt c y p && agreesAt c y p)
+
+-- p is "the first bit position" of them
+pub record FirstFrame (c : Content) (y : List ℕ) (from p : ℕ) : Type 0 where
+  pub after : from ≤ p
+  pub whole : wholeAt c y p ≡ true
+  pub agrees : agreesAt c y p ≡ true
+  pub none-earlier : (k : ℕ) → from ≤ k → k < p → wholeAt c y k ≡ true → agreesAt c y k ≡ true → ⊥
 
 -- the first one, or one more than the stream has bits
 unfoldable pub positionFrom : Content → List ℕ → ℕ → ℕ

@@ -41,6 +41,10 @@ bad =
       nameNumber = ours .nameNumber;
       nameBy = ours .nameBy;
       nameByNumber = ours .nameByNumber;
+      cardFrom = ours .cardFrom;
+      handedFrom = ours .handedFrom;
+      card = ours .card;
+      handed = ours .handed;
     }
 
 pub bad-refuted : Demands bad → ⊥

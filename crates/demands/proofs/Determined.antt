@@ -8,13 +8,15 @@ use Rattle.table.specs.declared.check.Checked.{Checked}
 use Rattle.framing.specs.declared.read.Reading.{Reading}
 use Rattle.framing.specs.declared.place.Placed.{Placed}
 use Rattle.framing.specs.declared.compare.Compared.{Compared}
-use Rattle.bench.specs.Promises.{Makes, MadeNumbered, Checks, CheckNumbered, Names, NameNumbered, NamesBy, NameByNumbered, Reads, ReadNumbered, Places, PlaceNumbered, Compares, CompareNumbered}
+use Rattle.carding.specs.declared.carded.Carded.{Carded}
+use Rattle.bench.specs.Promises.{Makes, MadeNumbered, Checks, CheckNumbered, Names, NameNumbered, NamesBy, NameByNumbered, Reads, ReadNumbered, Places, PlaceNumbered, Compares, CompareNumbered, Cards, CardNumbered, FrameBits}
 use Rattle.bench.specs.Texts.{Fills, WordsFill}
-use Rattle.ffi.specs.Promises.{MakesOut, ChecksOut, NamesOut, NamesByOut, ReadsOut, PlacesOut, ComparesOut}
+use Rattle.ffi.specs.Promises.{MakesOut, ChecksOut, NamesOut, NamesByOut, ReadsOut, PlacesOut, ComparesOut, CardsOut, FrameBitsOut}
 use Rattle.ffi.specs.declared.sheets.OrbMade.{OrbMade}
 use Rattle.ffi.specs.declared.tables.OrbName.{OrbName}
 use Rattle.ffi.specs.declared.frames.OrbSample.{OrbSample}
 use Rattle.ffi.specs.declared.frames.OrbCompared.{OrbCompared}
+use Rattle.ffi.specs.declared.cards.OrbCarded.{OrbCarded}
 
 both : {A : Type 0} {x y z : A} → x ≡ z → y ≡ z → x ≡ y
 both p q = p ∙ sym q
@@ -69,6 +71,15 @@ compares-one t f r q h k = both h k
 pub compare-number-one : (r : Compared) (i j : ℕ) → CompareNumbered r i → CompareNumbered r j → i ≡ j
 compare-number-one r i j h k = both h k
 
+pub cards-one : (t y w a b : List ℕ) (from : ℕ) (r q : Carded) → Cards t y from w r a → Cards t y from w q b → (r ≡ q) × (a ≡ b)
+cards-one t y w a b from r q h k = (both (h .0) (k .0), both (h .1) (k .1))
+
+pub card-number-one : (r : Carded) (i j : ℕ) → CardNumbered r i → CardNumbered r j → i ≡ j
+card-number-one r i j h k = both h k
+
+pub frame-bits-one : (t : List ℕ) (i j : ℕ) → FrameBits t i → FrameBits t j → i ≡ j
+frame-bits-one t i j h k = both h k
+
 pub fills-one : (x l a b : List ℕ) (need i j : ℕ) → Fills x need l i a → Fills x need l j b → (i ≡ j) × (a ≡ b)
 fills-one x l a b need i j h k = (both (h .0) (k .0), both (h .1) (k .1))
 
@@ -97,3 +108,9 @@ places-out-one t f a b p s v i j h k = (both (h .0) (k .0), both (h .1) (k .1))
 
 pub compares-out-one : (t f : List ℕ) (x y : OrbCompared) → ComparesOut t f x → ComparesOut t f y → x ≡ y
 compares-out-one t f x y h k = both h k
+
+pub cards-out-one : (t y w a b : List ℕ) (from : ℕ) (r q : OrbCarded) → CardsOut t y from w r a → CardsOut t y from w q b → (r ≡ q) × (a ≡ b)
+cards-out-one t y w a b from r q h k = (both (h .0) (k .0), both (h .1) (k .1))
+
+pub frame-bits-out-one : (t : List ℕ) (i j : ℕ) → FrameBitsOut t i → FrameBitsOut t j → i ≡ j
+frame-bits-out-one t i j h k = both h k

@@ -4,6 +4,7 @@ pub mod Meeting
 pub mod Ours
 pub mod Told
 pub mod Unbroken
+pub mod Cards
 pub mod Only
 pub mod Determined
 pub mod EndToEnd

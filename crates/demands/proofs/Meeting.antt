@@ -42,10 +42,13 @@ use Rattle.framing.specs.declared.place.Placed.the-variants as placing
 use Rattle.framing.proofs.Agree.{Lists, answers-bits, bits-answers}
 use Rattle.framing.proofs.Answered.{answered, raw-below}
 use Rattle.framing.proofs.PlaceRead.{placing as placing-done, placed-other as other-kept, placed-read}
+use Rattle.carding.specs.Answer.{cardedNumber}
+use Rattle.carding.specs.declared.carded.Carded.the-variants.{Found}
 use Rattle.demands.specs.Calls.{Calls, Kept}
-use Rattle.demands.specs.Refusing.{componentsOf}
-use Rattle.demands.specs.Demands.{HasSample, meaning, answerFor, Fitting, SheetRefused, One, SheetTaken, NameAnswered, Two, SameAnswers, SameBits, Three, Demands}
+use Rattle.demands.specs.Refusing.{componentsOf, firstBroken, cardRules}
+use Rattle.demands.specs.Demands.{HasSample, meaning, answerFor, Fitting, SheetRefused, One, SheetTaken, NameAnswered, Two, SameAnswers, SameBits, FrameHanded, FrameFits, Three, Demands}
 use Rattle.demands.proofs.Numbers.{check-number, read-number, place-number, compare-number, name-number, mnemonic-number}
+use Rattle.demands.proofs.Cards.{card-number, card-unchanged, findable, frame-handed, front-meets, front-passes, found-findable, found-counts}
 use Rattle.demands.proofs.Parts.{unnamed-part, name-asked, mnemonic-asked, named-part, first-differing}
 
 -- ---- what a check that passes says
@@ -151,6 +154,8 @@ module _ (B : Calls) (K : Kept B) where
         unnamed = λ t p n. unnamed-part t (B .name t p) (askedNumber (now t) p) (K .names t p) (λ e. n (sym (name-number (now t) p) ∙ e));
         mnemonics = λ t m. K .names-by-numbered t m ∙ mnemonic-number t m;
         unknown = λ t m n. unnamed-part t (B .nameBy t m) (askedMnemonic (now t) m) (K .names-by t m) (λ e. n (sym (mnemonic-number (now t) m) ∙ e));
+        cards = λ t y from w. ap cardedNumber (K .cards-from t y from w .0) ∙ card-number t y from w;
+        card-unchanged = λ t y from w n. K .cards-from t y from w .1 ∙ card-unchanged t y from w (λ e. n (sym (card-number t y from w) ∙ e));
       }
 
   -- ---- samples
@@ -216,6 +221,9 @@ module _ (B : Calls) (K : Kept B) where
         mnemonic = λ t m e i l q. named-part t (B .nameBy t m) (askedMnemonic (now t) m) i (K .names-by t m) (mnemonic-asked (now t) m e i l q);
       }
 
+  frame-found : (t y : List ℕ) (from : ℕ) (w : List ℕ) → firstBroken (cardRules t y from w) ≡ 0 → FrameHanded (view t) y from w (B .cardFrom t y from w) (B .handedFrom t y from w)
+  frame-found t y from w e = rw (K .cards-from t y from w .0, K .cards-from t y from w .1) (frame-handed t y from w (findable t y from w e))
+
   pub two : Two B
   two =
       record {
@@ -223,6 +231,8 @@ module _ (B : Calls) (K : Kept B) where
         named = named;
         joined = λ t f p s h l. read-joined t (h .passes) p s l f (h .fits);
         placed = λ t f p s v h l d. record { done = value-done t (h .passes) p s l f (h .fits) v d; back = read-back t (h .passes) p s l f (h .fits) v d; other = kept-outside t (h .passes) p s l f (h .fits) v d };
+        found = frame-found;
+        first-of-all = λ t y w. record { answer = K .cards t y w .0 ∙ sym (K .cards-from t y 0 w .0); words = K .cards t y w .1 ∙ sym (K .cards-from t y 0 w .1) };
       }
 
   -- ---- 3
@@ -245,12 +255,23 @@ module _ (B : Calls) (K : Kept B) where
           each = λ p s l. K .reads t f p s ∙ (bits-answers t f g passing (h .fits) (n .fits) (record { each = λ p′ s′ k. a .each p′ s′ (listed-of t p′ s′ k) }) .each p s (lists-of t p s l) ∙ sym (K .reads t g p s));
         }
 
+  handed-fits : (t y : List ℕ) (from : ℕ) (w : List ℕ) (p n : ℕ) → B .cardFrom t y from w ≡ Found p n → FrameFits B t (take n (B .handedFrom t y from w))
+  handed-fits t y from w p n e =
+      let q = sym (K .cards-from t y from w .0) ∙ e in
+      let h = found-findable t y from w p n q in
+      rw (K .cards-from t y from w .1, found-counts t y from w p n q)
+      (record {
+        fitting = record { passes = K .checks t ∙ check-of t (h .accepted); fits = front-meets t y from w h };
+        compared = K .compares t _ ∙ front-passes t y from w h;
+      })
+
   pub three : Three B
   three =
       record {
         passes = λ s l n h. K .checks (take n (B .made s l)) ∙ (ap (λ (x : List ℕ). checkOf (take n x)) (K .makes s l .1) ∙ check-of (take n (leftOf (judgeOf s) l)) (made-table s l n (sym (K .makes s l .0) ∙ h) .passes));
         answers = λ t f p s h l. record { raw = join f (componentsOf (view t) p s); wide = width (componentsOf (view t) p s); value = meaning (view t) p s (join f (componentsOf (view t) p s)); is = read-joined t (h .passes) p s l f (h .fits); below = below-width t (h .passes) p s l f };
         exactly = λ t f g h n. (same-bits t f g h n, same-answers t f g h n);
+        handed-fits = handed-fits;
       }
 
   pub demands-met : Demands B

@@ -31,7 +31,7 @@ use Rattle.framing.specs.declared.compare.Compared.the-variants as compared
 use Rattle.demands.specs.Refusing.{componentsOf, hasParameter, hasSample, asManyWords, firstBroken, checkRules, readRules, placeRules, compareRules, nameRules, mnemonicRules}
 
 -- the first number below n of which p holds is below n exactly where there is one
-found-any : (n : ℕ) (p : ℕ → Bool) → ltb (find n p) n ≡ any n p
+pub found-any : (n : ℕ) (p : ℕ → Bool) → ltb (find n p) n ≡ any n p
 found-any n p = same-tests _ _ there back
   where
     there : ltb (find n p) n ≡ true → any n p ≡ true

@@ -28,7 +28,7 @@ use Rattle.grammar.specs.Says.{Says}
 use Rattle.grammar.proofs.Accepted.{accepted-says}
 use Rattle.maker.specs.Made.{madeOf, leftOf}
 use Rattle.maker.specs.declared.make.Made.the-variants as made
-use Rattle.bench.specs.Promises.{Makes, Names, NamesBy}
+use Rattle.bench.specs.Promises.{Makes, Names, NamesBy, Cards}
 use Rattle.table.specs.Answers.{NameOf, checkOf, askedNumber, askedMnemonic, askedRefusal, nameAnswered, placeAnswered}
 use Rattle.table.specs.declared.naming.Asked.{Asked}
 use Rattle.table.specs.declared.naming.Asked.the-variants as asked
@@ -37,11 +37,12 @@ use Rattle.framing.specs.Placing.{placeOf, placedOf}
 use Rattle.framing.specs.Comparing.{comparedOf}
 use Rattle.framing.specs.declared.read.Reading.the-variants.{Sample}
 use Rattle.demands.specs.Calls.{Calls, Kept}
-use Rattle.demands.specs.Refusing.{componentsOf, firstBroken, readRules, placeRules, nameRules, mnemonicRules}
+use Rattle.demands.specs.Refusing.{componentsOf, firstBroken, readRules, placeRules, nameRules, mnemonicRules, cardRules}
 use Rattle.demands.specs.Demands.{answerFor, Fitting, EmptyPart, NamePart, ValuePlaced, Demands}
 use Rattle.demands.proofs.Numbers.{read-number, place-number, compare-number, name-number, mnemonic-number}
 use Rattle.demands.proofs.Parts.{name-asked, mnemonic-found, first-differing}
 use Rattle.demands.proofs.Told.{same-reading, same-placing, same-checked, same-compared}
+use Rattle.demands.proofs.Cards.{card-number, findable, handed-alike, same-carded}
 use Rattle.demands.proofs.Unbroken.{Readable, readable, long, place-readable}
 use Rattle.demands.proofs.Meeting.{accepts-of, check-of}
 use Rattle.demands.proofs.Ours.{ours, ours-meets}
@@ -159,6 +160,24 @@ module _ (B : Calls) (D : Demands B) where
           let x = mnemonic-found (now t) m (some _ h) in
           subst (NameOf t (B .nameBy t m)) (sym (x .asked)) (part-named t (B .nameBy t m) (x .at) (D .two .named .mnemonic t m (some _ h) (x .at) (x .here) (x .has)))
 
+  -- ---- cards
+
+  cards-from : (t y : List ℕ) (from : ℕ) (w : List ℕ) → Cards t y from w (B .cardFrom t y from w) (B .handedFrom t y from w)
+  cards-from t y from w = go (decLt 0 (firstBroken (cardRules t y from w)))
+    where
+      go : Dec (0 < firstBroken (cardRules t y from w)) → Cards t y from w (B .cardFrom t y from w) (B .handedFrom t y from w)
+      go (yes h) = (
+        same-carded _ _ (D .one .cards t y from w ∙ sym (card-number t y from w)) (subst (λ (n : ℕ). 0 < n) (sym (card-number t y from w)) h),
+        D .one .card-unchanged t y from w (λ e. omega arith) ∙ sym (ours-meets .one .card-unchanged t y from w (λ e. omega arith)),
+      )
+      go (no h) = handed-alike t y from w (findable t y from w (some _ h)) (D .two .found t y from w (some _ h))
+
+  cards : (t y w : List ℕ) → Cards t y 0 w (B .card t y w) (B .handed t y w)
+  cards t y w =
+      let a = D .two .first-of-all t y w in
+      let b = cards-from t y 0 w in
+      (a .answer ∙ b .0, a .words ∙ b .1)
+
   -- ---- making
 
   module _ (s l : List ℕ) where
@@ -207,4 +226,6 @@ module _ (B : Calls) (D : Demands B) where
         names-numbered = λ t p. D .one .names t p ∙ sym (name-number t p);
         names-by = names-by;
         names-by-numbered = λ t m. D .one .mnemonics t m ∙ sym (mnemonic-number t m);
+        cards-from = cards-from;
+        cards = cards;
       }

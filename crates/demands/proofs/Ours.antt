@@ -11,6 +11,7 @@ use Rattle.table.specs.declared.naming.Asked.{Asked}
 use Rattle.framing.specs.Reading.{readOf}
 use Rattle.framing.specs.Placing.{placeOf, placedOf}
 use Rattle.framing.specs.Comparing.{comparedOf}
+use Rattle.carding.specs.Answer.{cardedOf, handedOf}
 use Rattle.demands.specs.Calls.{Calls, Kept}
 use Rattle.demands.specs.Demands.{Demands}
 use Rattle.demands.proofs.Meeting.{demands-met}
@@ -33,6 +34,10 @@ ours =
       nameNumber = λ t p. askedRefusal (askedNumber t p);
       nameBy = λ t m. answeredPart t (askedMnemonic (now t) m);
       nameByNumber = λ t m. askedRefusal (askedMnemonic t m);
+      cardFrom = cardedOf;
+      handedFrom = handedOf;
+      card = λ t y w. cardedOf t y 0 w;
+      handed = λ t y w. handedOf t y 0 w;
     }
 
 pub ours-kept : Kept ours
@@ -47,6 +52,8 @@ ours-kept =
       names-numbered = λ t p. refl;
       names-by = λ t m. record { bytes = refl; own = record { block = refl; place = refl } };
       names-by-numbered = λ t m. refl;
+      cards-from = λ t y from w. (refl, refl);
+      cards = λ t y w. (refl, refl);
     }
 
 pub ours-meets : Demands ours

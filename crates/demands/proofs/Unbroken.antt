@@ -15,7 +15,7 @@ use Rattle.model.specs.View.{view}
 use Rattle.demands.specs.Refusing.{Rule, rule as ruled, firstBroken, readRules, placeRules, fitsWidth}
 use Rattle.demands.specs.Demands.{HasSample}
 
-holds-first : (b : Bool) (m n : ℕ) → 0 < n → cond b m n ≡ 0 → (b ≡ true) × (m ≡ 0)
+pub holds-first : (b : Bool) (m n : ℕ) → 0 < n → cond b m n ≡ 0 → (b ≡ true) × (m ≡ 0)
 holds-first true m n h e = (refl, e)
 holds-first false m n h e = absurd (omega arith)
 

@@ -7,7 +7,8 @@ use Rattle.table.specs.declared.check.Checked.{Checked}
 use Rattle.framing.specs.declared.read.Reading.{Reading}
 use Rattle.framing.specs.declared.place.Placed.{Placed}
 use Rattle.framing.specs.declared.compare.Compared.{Compared}
-use Rattle.bench.specs.Promises.{Makes, Checks, Reads, Places, Compares, Names, NameNumbered, NamesBy, NameByNumbered}
+use Rattle.carding.specs.declared.carded.Carded.{Carded}
+use Rattle.bench.specs.Promises.{Makes, Checks, Reads, Places, Compares, Names, NameNumbered, NamesBy, NameByNumbered, Cards}
 
 pub record Calls : Type 0 where
   -- sheet, lent bytes
@@ -27,6 +28,12 @@ pub record Calls : Type 0 where
   -- table, mnemonic
   pub nameBy : RefT (List ℕ) → List ℕ → RefT (List ℕ)
   pub nameByNumber : List ℕ → List ℕ → ℕ
+  -- table, stream, the bit to begin at, lent words
+  pub cardFrom : List ℕ → List ℕ → ℕ → List ℕ → Carded
+  pub handedFrom : List ℕ → List ℕ → ℕ → List ℕ → List ℕ
+  -- from the first bit on
+  pub card : List ℕ → List ℕ → List ℕ → Carded
+  pub handed : List ℕ → List ℕ → List ℕ → List ℕ
 
 -- they keep the promises that the crate bench makes
 pub record Kept (B : Calls) : Type 0 where
@@ -39,3 +46,5 @@ pub record Kept (B : Calls) : Type 0 where
   pub names-numbered : (t : List ℕ) (p : ℕ) → NameNumbered t p (B .nameNumber t p)
   pub names-by : (t : RefT (List ℕ)) (m : List ℕ) → NamesBy t m (B .nameBy t m)
   pub names-by-numbered : (t m : List ℕ) → NameByNumbered t m (B .nameByNumber t m)
+  pub cards-from : (t y : List ℕ) (from : ℕ) (w : List ℕ) → Cards t y from w (B .cardFrom t y from w) (B .handedFrom t y from w)
+  pub cards : (t y w : List ℕ) → Cards t y 0 w (B .card t y w) (B .handed t y w)

@@ -13,7 +13,7 @@ use Rattle.sample.specs.Component.{Place, Named}
 use Rattle.sample.specs.Joining.{join, width}
 use Rattle.sample.specs.Source.{bitIn}
 use Rattle.model.specs.Content.{Content, parameters, parameter, subframes}
-use Rattle.model.specs.Frame.{meets}
+use Rattle.model.specs.Frame.{frameWords, meets}
 use Rattle.model.specs.Stored.{textPart, textStartIn}
 use Rattle.model.specs.View.{view}
 use Rattle.model.specs.Write.{write}
@@ -31,9 +31,14 @@ use Rattle.framing.specs.Comparing.{differsIn, comparedNumber}
 use Rattle.framing.specs.declared.read.Reading.{Reading}
 use Rattle.framing.specs.declared.read.Reading.the-variants.{Sample}
 use Rattle.framing.specs.declared.place.Placed.the-variants.{Done}
-use Rattle.framing.specs.declared.compare.Compared.the-variants.{Differs}
+use Rattle.framing.specs.declared.compare.Compared.the-variants.{Passes, Differs}
+use Rattle.carding.specs.Layout.{Carries}
+use Rattle.carding.specs.Search.{FirstFrame}
+use Rattle.carding.specs.Answer.{cardedNumber}
+use Rattle.carding.specs.declared.carded.Carded.{Carded}
+use Rattle.carding.specs.declared.carded.Carded.the-variants.{Found}
 use Rattle.demands.specs.Calls.{Calls}
-use Rattle.demands.specs.Refusing.{componentsOf, firstBroken, checkRules, readRules, placeRules, compareRules, nameRules, mnemonicRules}
+use Rattle.demands.specs.Refusing.{componentsOf, firstBroken, checkRules, readRules, placeRules, compareRules, nameRules, mnemonicRules, cardRules}
 
 -- ---- words that the demands use
 
@@ -107,6 +112,8 @@ pub record One (B : Calls) : Type 0 where
   pub unnamed : (t : RefT (List ℕ)) (p : ℕ) → (firstBroken (nameRules (now t) p) ≡ 0 → ⊥) → EmptyPart t (B .name t p)
   pub mnemonics : (t m : List ℕ) → B .nameByNumber t m ≡ firstBroken (mnemonicRules t m)
   pub unknown : (t : RefT (List ℕ)) (m : List ℕ) → (firstBroken (mnemonicRules (now t) m) ≡ 0 → ⊥) → EmptyPart t (B .nameBy t m)
+  pub cards : (t y : List ℕ) (from : ℕ) (w : List ℕ) → cardedNumber (B .cardFrom t y from w) ≡ firstBroken (cardRules t y from w)
+  pub card-unchanged : (t y : List ℕ) (from : ℕ) (w : List ℕ) → (firstBroken (cardRules t y from w) ≡ 0 → ⊥) → B .handedFrom t y from w ≡ w
 
 -- ---- 2. "A sheet is accepted exactly under TP 13140E 2.0 as narrowed by the scope paper, and its table says what the sheet
 -- says. A sample read is the joining of its components, lowest first, with the two's complement sign where the sheet says
@@ -134,6 +141,20 @@ pub record ValuePlaced (B : Calls) (t f : List ℕ) (p s v : ℕ) : Type 0 where
   pub back : B .read t (B .placed t f p s v) p s ≡ answerFor (view t) p s v
   pub other : (q : Place) → (Named (componentsOf (view t) p s) q → ⊥) → bitIn (B .placed t f p s v) q ≡ bitIn f q
 
+-- a card's frame: 02's "Find the first bit position at which a whole frame fits and every record identifier agrees, and hand out
+-- that frame's words, equal to the stream's bits", "words beyond the frame stay"
+pub record FrameHanded (c : Content) (y : List ℕ) (from : ℕ) (w : List ℕ) (r : Carded) (o : List ℕ) : Type 0 where
+  pub position : ℕ
+  pub is : r ≡ Found position (frameWords c)
+  pub first : FirstFrame c y from position
+  pub words : Carries c y position (take (frameWords c) o)
+  pub beyond : drop (frameWords c) o ≡ drop (frameWords c) w
+
+-- a card read from its first bit on is one read from bit 0 on
+pub record FromTheFirst (B : Calls) (t y w : List ℕ) : Type 0 where
+  pub answer : B .card t y w ≡ B .cardFrom t y 0 w
+  pub words : B .handed t y w ≡ B .handedFrom t y 0 w
+
 pub record Two (B : Calls) : Type 0 where
   pub sheet : SheetTaken B
   pub named : NameAnswered B
@@ -141,6 +162,9 @@ pub record Two (B : Calls) : Type 0 where
       → B .read t f p s ≡ answerFor (view t) p s (join f (componentsOf (view t) p s))
   pub placed : (t f : List ℕ) (p s v : ℕ) → Fitting B t f → HasSample (view t) p s → v < 2 ^ width (componentsOf (view t) p s)
       → ValuePlaced B t f p s v
+  pub found : (t y : List ℕ) (from : ℕ) (w : List ℕ) → firstBroken (cardRules t y from w) ≡ 0
+      → FrameHanded (view t) y from w (B .cardFrom t y from w) (B .handedFrom t y from w)
+  pub first-of-all : (t y w : List ℕ) → FromTheFirst B t y w
 
 -- ---- 3. "Every table made from an accepted sheet passes the table check. For a table that the check accepts, no matter who
 -- made it, and frames that fit it, every listed sample is answered, none refused, its raw value below two to the width; two
@@ -160,10 +184,17 @@ pub record SameAnswers (B : Calls) (t f g : List ℕ) : Type 0 where
 pub record SameBits (t f g : List ℕ) : Type 0 where
   pub each : (p s : ℕ) → HasSample (view t) p s → (q : Place) → Named (componentsOf (view t) p s) q → bitIn f q ≡ bitIn g q
 
+-- 02: "3 is read over the frame handed out": it fits, so all that is said of frames is said of it, and comparing it passes
+pub record FrameFits (B : Calls) (t f : List ℕ) : Type 0 where
+  pub fitting : Fitting B t f
+  pub compared : B .compare t f ≡ Passes
+
 pub record Three (B : Calls) : Type 0 where
   pub passes : (s l : List ℕ) (n : ℕ) → B .make s l ≡ made.Length n → B .check (take n (B .made s l)) ≡ Table
   pub answers : (t f : List ℕ) (p s : ℕ) → Fitting B t f → HasSample (view t) p s → Answered B t f p s
   pub exactly : (t f g : List ℕ) → Fitting B t f → Fitting B t g → SameAnswers B t f g ↔ SameBits t f g
+  pub handed-fits : (t y : List ℕ) (from : ℕ) (w : List ℕ) (p n : ℕ) → B .cardFrom t y from w ≡ Found p n
+      → FrameFits B t (take n (B .handedFrom t y from w))
 
 pub record Demands (B : Calls) : Type 0 where
   pub one : One B

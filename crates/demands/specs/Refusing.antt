@@ -1,7 +1,7 @@
--- 01's refusals, call by call: what must hold, in 01's order, each with the number that is given where it does not.
+-- 01's and 02's refusals, call by call: what must hold, in their order, each with the number that is given where it does not.
 use mathlib.Core.Bool.{Bool, _&&_, not, cond}
 use mathlib.Core.List.{List, [], _∷_, _++_}
-use Prim.Native.Nat.{ℕ, _+_, _-_, _^_}
+use Prim.Native.Nat.{ℕ, _+_, _-_, _*_, _^_}
 use lib.Dec.{eqb, leb, ltb}
 use lib.ListN.{length}
 use Rattle.lay.specs.Below.{any}
@@ -14,6 +14,7 @@ use Rattle.model.specs.Frame.{frameWords, wordsOk}
 use Rattle.model.specs.Accepts.{accepts}
 use Rattle.model.specs.View.{view}
 use Rattle.framing.specs.Comparing.{differsIn}
+use Rattle.carding.specs.Search.{soughtAt}
 
 -- ---- the first rule that is broken gives the number
 
@@ -58,6 +59,22 @@ fitsWidth c p s v = ltb v (2 ^ width (componentsOf c p s))
 abbrev pub identifiersAgree : Content → List ℕ → Bool
 identifiersAgree c f = not (any (subframes c) (λ s. differsIn c f (s + 1)))
 
+-- 27, "a table without parameters"
+abbrev pub hasParameters : Content → Bool
+hasParameters c = leb 1 (parameters c)
+
+-- 38, "Streams go up to 65,536 bytes"
+abbrev pub notLong : List ℕ → Bool
+notLong y = leb (length y) 65536
+
+-- 25, "exactly when no such position exists", at or after the bit to begin at
+abbrev pub someFrame : Content → List ℕ → ℕ → Bool
+someFrame c y from = any (8 * length y + 1) (soughtAt c y from)
+
+-- 28, "a lent word slice too short"
+abbrev pub enoughWords : Content → List ℕ → Bool
+enoughWords c w = leb (frameWords c) (length w)
+
 -- ---- 01's order
 
 -- 18, "bytes aren't a table"
@@ -93,3 +110,13 @@ nameRules t p = rule 18 (accepts t) ∷ rule 21 (hasParameter (view t) p) ∷ []
 
 abbrev pub mnemonicRules : List ℕ → List ℕ → List Rule
 mnemonicRules t m = rule 18 (accepts t) ∷ rule 21 (hasMnemonic (view t) m) ∷ []
+
+-- 02: "after 18, 27 .. 38 .. then 25 .. then 28"
+abbrev pub cardRules : List ℕ → List ℕ → ℕ → List ℕ → List Rule
+cardRules t y from w =
+    rule 18 (accepts t)
+    ∷ rule 27 (hasParameters (view t))
+    ∷ rule 38 (notLong y)
+    ∷ rule 25 (someFrame (view t) y from)
+    ∷ rule 28 (enoughWords (view t) w)
+    ∷ []

@@ -1,0 +1,211 @@
+-- Cards: our definitions have the first broken rule's number and hand out the first frame, and no other answer would do. Assumes
+-- nothing.
+use Prim.Native.Nat.{ℕ, _+_, _*_, _≤_, _<_}
+use native.Mathlib.Omega.{arith}
+use mathlib.Core.Bool.{Bool, true, false, cond, not}
+use mathlib.Core.Path.{_≡_, refl, sym, ap, ap₂, subst, _∙_}
+use mathlib.Core.List.{List, _++_}
+use borrow.Author.Tests.{le-leb, leb-true, lt-ltb, ltb-true, eqb-true, eq-eqb, ne-eqb}
+use lib.Dec.{eqb, leb, ltb}
+use lib.ListN.{length, take, drop, take-append-drop}
+use lib.Seq.{take-at, drop-at}
+use Rattle.lay.specs.Below.{any, find}
+use Rattle.lay.proofs.Puts.{put-front}
+use Rattle.lay.proofs.Tests.{same-tests, differ, rule, not-holds, holds-not}
+use Rattle.model.specs.Accepts.{accepts}
+use Rattle.model.specs.Content.{Content, parameters}
+use Rattle.model.specs.Frame.{frameWords, wordsOk, meets}
+use Rattle.model.specs.View.{view}
+use Rattle.framing.specs.Fitting.{fitOf}
+use Rattle.framing.specs.Comparing.{fittedCompared, comparedOf, comparedNumber}
+use Rattle.framing.specs.declared.fit.Fit.the-variants.{Fits}
+use Rattle.framing.specs.declared.compare.Compared.{Compared}
+use Rattle.framing.specs.declared.compare.Compared.the-variants.{Passes}
+use Rattle.framing.specs.declared.compare.Compared.the-variants as compared
+use Rattle.framing.proofs.CompareCases.{compared-frame}
+use Rattle.carding.specs.Layout.{frameAt, Carries}
+use Rattle.carding.specs.Search.{soughtAt, agreesAt, positionFrom, foundFrom}
+use Rattle.carding.specs.Answer.{longest, searched, cardedIn, cardedOf, handedFor, handedOf, cardedNumber}
+use Rattle.carding.specs.declared.carded.Carded.{Carded}
+use Rattle.carding.specs.declared.carded.Carded.the-variants.{Found, NoTable, NoParameters, LongStream, NoFrame, FewWords}
+use Rattle.carding.proofs.Answers.{found-first, first-is}
+use Rattle.carding.proofs.Back.{carried}
+use Rattle.carding.proofs.Frames.{frame-long, frame-meets}
+use Rattle.carding.proofs.Straight.{frame-carries}
+use Rattle.demands.specs.Refusing.{firstBroken, cardRules, hasParameters, notLong, someFrame, enoughWords}
+use Rattle.demands.specs.Demands.{FrameHanded}
+use Rattle.demands.proofs.Numbers.{found-any}
+use Rattle.demands.proofs.Unbroken.{holds-first}
+
+-- ---- the tests of the rules are those of our definitions
+
+some-none : (n : ℕ) → not (eqb n 0) ≡ leb 1 n
+some-none n =
+    same-tests _ _
+    (λ h. le-leb 1 n (least n (λ e. differ (not-holds _ h) (eq-eqb n 0 e))))
+    (λ h. holds-not _ (ne-eqb n 0 (λ e. let l = leb-true 1 n h in omega arith)))
+  where
+    least : (n : ℕ) → (n ≡ 0 → ⊥) → 1 ≤ n
+    least n h = omega (arith, h)
+
+found-some : (c : Content) (y : List ℕ) (from : ℕ) → foundFrom c y from ≡ someFrame c y from
+unfolding foundFrom positionFrom
+found-some c y from =
+    same-tests (leb at (8 * length y)) (ltb at (8 * length y + 1))
+    (λ h. lt-ltb at (8 * length y + 1) (let l = leb-true at (8 * length y) h in omega arith))
+    (λ h. le-leb at (8 * length y) (let l = ltb-true at (8 * length y + 1) h in omega arith))
+    ∙ found-any (8 * length y + 1) (soughtAt c y from)
+  where
+    at : ℕ
+    at = find (8 * length y + 1) (soughtAt c y from)
+
+-- ---- 18, 27, 38, 25, 28
+
+pub card-number : (t y : List ℕ) (from : ℕ) (w : List ℕ) → cardedNumber (cardedOf t y from w) ≡ firstBroken (cardRules t y from w)
+unfolding cardedOf cardedIn searched cardedNumber firstBroken
+card-number t y from w =
+    go (accepts t) (eqb (parameters (view t)) 0) (notLong y) (foundFrom (view t) y from) (enoughWords (view t) w)
+    ∙ ap₂ (λ (a b : Bool). cond (accepts t) (cond a (cond (notLong y) (cond b (cond (enoughWords (view t) w) 0 28) 25) 38) 27) 18)
+    (some-none (parameters (view t))) (found-some (view t) y from)
+  where
+    go : (a n l f e : Bool) → cardedNumber (cond a (cond n NoParameters (cond l (cond f (cond e (Found (positionFrom (view t) y from) (frameWords (view t))) FewWords) NoFrame) LongStream)) NoTable) ≡ cond a (cond (not n) (cond l (cond f (cond e 0 28) 25) 38) 27) 18
+    go false n l f e = refl
+    go true true l f e = refl
+    go true false false f e = refl
+    go true false true false e = refl
+    go true false true true false = refl
+    go true false true true true = refl
+
+-- a card that is refused leaves the words as they were
+pub card-unchanged : (t y : List ℕ) (from : ℕ) (w : List ℕ) → (cardedNumber (cardedOf t y from w) ≡ 0 → ⊥) → handedOf t y from w ≡ w
+unfolding handedOf handedFor cardedNumber
+card-unchanged t y from w n = go (cardedOf t y from w) n
+  where
+    go : (r : Carded) → (cardedNumber r ≡ 0 → ⊥) → handedFor (view t) y w r ≡ w
+    go (Found p k) m = absurd (m refl)
+    go NoTable m = refl
+    go NoParameters m = refl
+    go LongStream m = refl
+    go NoFrame m = refl
+    go FewWords m = refl
+
+-- ---- where none is broken
+
+pub record Findable (t y : List ℕ) (from : ℕ) (w : List ℕ) : Type 0 where
+  pub accepted : accepts t ≡ true
+  pub some : eqb (parameters (view t)) 0 ≡ false
+  pub short : leb (length y) longest ≡ true
+  pub found : foundFrom (view t) y from ≡ true
+  pub room : leb (frameWords (view t)) (length w) ≡ true
+
+pub findable : (t y : List ℕ) (from : ℕ) (w : List ℕ) → firstBroken (cardRules t y from w) ≡ 0 → Findable t y from w
+unfolding firstBroken
+findable t y from w e =
+    let a = holds-first (accepts t) _ 18 (omega arith) e in
+    let b = holds-first (hasParameters (view t)) _ 27 (omega arith) (a .1) in
+    let d = holds-first (notLong y) _ 38 (omega arith) (b .1) in
+    let g = holds-first (someFrame (view t) y from) _ 25 (omega arith) (d .1) in
+    let h = holds-first (enoughWords (view t) w) _ 28 (omega arith) (g .1) in
+    record {
+      accepted = a .0;
+      some = not-holds _ (some-none (parameters (view t)) ∙ b .0);
+      short = d .0;
+      found = found-some (view t) y from ∙ g .0;
+      room = h .0;
+    }
+
+meets-long : (c : Content) (f : List ℕ) → meets c f ≡ true → eqb (length f) (frameWords c) ≡ true
+unfolding meets
+meets-long c f m = rule _ m 0
+
+meets-words : (c : Content) (f : List ℕ) → meets c f ≡ true → wordsOk c f ≡ true
+unfolding meets
+meets-words c f m = rule _ m 1
+
+number-passes : (x : Compared) → comparedNumber x ≡ 0 → x ≡ Passes
+unfolding comparedNumber
+number-passes Passes e = refl
+number-passes compared.NoTable e = absurd (omega arith)
+number-passes compared.OtherCount e = absurd (omega arith)
+number-passes compared.HighWord e = absurd (omega arith)
+number-passes (compared.Differs s) e = absurd (omega arith)
+
+module _ (t y : List ℕ) (from : ℕ) (w : List ℕ) (h : Findable t y from w) where
+  abbrev c : Content
+  c = view t
+
+  abbrev at : ℕ
+  at = positionFrom c y from
+
+  found-is : cardedOf t y from w ≡ Found at (frameWords c)
+  unfolding cardedOf cardedIn searched
+  found-is = rw (h .accepted, h .some, h .short, h .found, h .room)
+
+  handed-is : handedOf t y from w ≡ frameAt c y at ++ drop (frameWords c) w
+  unfolding handedOf handedFor
+  handed-is =
+      ap (handedFor c y w) found-is
+      ∙ put-front w (frameAt c y at)
+      ∙ ap (λ (n : ℕ). frameAt c y at ++ drop n w) (frame-long c y at)
+
+  front : take (frameWords c) (handedOf t y from w) ≡ frameAt c y at
+  front = ap (take (frameWords c)) handed-is ∙ take-at (frameAt c y at) (drop (frameWords c) w) (frameWords c) (frame-long c y at)
+
+  pub frame-handed : FrameHanded c y from w (cardedOf t y from w) (handedOf t y from w)
+  frame-handed =
+      record {
+        position = at;
+        is = found-is;
+        first = found-first c y from (h .found);
+        words = subst (Carries c y at) (sym front) (frame-carries c y at);
+        beyond = ap (drop (frameWords c)) handed-is ∙ drop-at (frameAt c y at) (drop (frameWords c) w) (frameWords c) (frame-long c y at);
+      }
+
+  -- the frame handed out meets the table, and comparing it passes
+  pub front-meets : meets c (take (frameWords c) (handedOf t y from w)) ≡ true
+  front-meets = ap (meets c) front ∙ frame-meets c y at
+
+  pub front-passes : comparedOf t (take (frameWords c) (handedOf t y from w)) ≡ Passes
+  unfolding fitOf fittedCompared agreesAt
+  front-passes =
+      let m = frame-meets c y at in
+      let fit : fitOf c (frameAt c y at) ≡ Fits = rw (meets-long c (frameAt c y at) m, meets-words c (frameAt c y at) m) in
+      ap (comparedOf t) front
+      ∙ compared-frame t (frameAt c y at) Fits (h .accepted) fit
+      ∙ number-passes _ (eqb-true _ _ (found-first c y from (h .found) .agrees))
+
+  -- whoever hands out a first frame's words hands out these
+  pub handed-alike : {r : Carded} {o : List ℕ} → FrameHanded c y from w r o → (r ≡ cardedOf t y from w) × (o ≡ handedOf t y from w)
+  handed-alike {r} {o} f =
+      let p : f .position ≡ at = first-is c y from (f .position) (f .first) in
+      let words : take (frameWords c) o ≡ frameAt c y at = sym (carried c _ (f .words)) ∙ ap (frameAt c y) p in
+      (f .is ∙ ap (λ (k : ℕ). Found k (frameWords c)) p ∙ sym found-is,
+      sym (take-append-drop (frameWords c) o) ∙ ap₂ _++_ words (f .beyond) ∙ sym handed-is)
+
+-- what is found is findable
+pub found-findable : (t y : List ℕ) (from : ℕ) (w : List ℕ) (p n : ℕ) → cardedOf t y from w ≡ Found p n → Findable t y from w
+unfolding cardedNumber
+found-findable t y from w p n e = findable t y from w (sym (card-number t y from w) ∙ ap cardedNumber e)
+
+pub found-counts : (t y : List ℕ) (from : ℕ) (w : List ℕ) (p n : ℕ) → cardedOf t y from w ≡ Found p n → n ≡ frameWords (view t)
+found-counts t y from w p n e = counts (sym e ∙ frame-handed t y from w (found-findable t y from w p n e) .is)
+  where
+    counts : {p q k m : ℕ} → Found p k ≡ Found q m → k ≡ m
+    counts e = cc
+
+-- ---- a number says which refusal it is
+
+abbrev cardedBy : ℕ → Carded
+cardedBy n = cond (eqb n 18) NoTable (cond (eqb n 27) NoParameters (cond (eqb n 38) LongStream (cond (eqb n 25) NoFrame FewWords)))
+
+carded-back : (r : Carded) → 0 < cardedNumber r → r ≡ cardedBy (cardedNumber r)
+unfolding cardedNumber
+carded-back (Found p n) h = absurd (omega arith)
+carded-back NoTable h = refl
+carded-back NoParameters h = refl
+carded-back LongStream h = refl
+carded-back NoFrame h = refl
+carded-back FewWords h = refl
+
+pub same-carded : (x y : Carded) → cardedNumber x ≡ cardedNumber y → 0 < cardedNumber y → x ≡ y
+same-carded x y e h = carded-back x (omega arith) ∙ (ap cardedBy e ∙ sym (carded-back y h))
