@@ -8,8 +8,10 @@ pub mod Cards
 pub mod Only
 pub mod Determined
 pub mod EndToEnd
+pub mod CardEnd
 pub mod Wall
 pub mod Useless
+pub mod UselessCards
 pub mod Slips
 pub mod Bad
 pub mod WallListed

@@ -1,0 +1,129 @@
+-- From the sheet and the card to the value: of any bench that meets the demands. Assumes nothing.
+use mathlib.Core.Path.{_≡_, refl, sym, ap, subst, _∙_}
+use mathlib.Core.Bool.{true}
+use mathlib.Core.List.{List}
+use mathlib.Core.Logic.{_↔_}
+use Prim.Native.Nat.{ℕ, _-_, _≤_, _<_}
+use native.Mathlib.Omega.{arith}
+use lib.ListN.{length, take}
+use Rattle.sample.specs.Component.{Place, Named}
+use Rattle.sample.specs.Joining.{join}
+use Rattle.sample.specs.Source.{bitIn}
+use Rattle.model.specs.Accepts.{accepts}
+use Rattle.model.specs.Content.{Content, parameter}
+use Rattle.model.specs.Frame.{frameWords}
+use Rattle.model.specs.Stored.{parametersIn}
+use Rattle.model.specs.View.{view}
+use Rattle.model.proofs.Views.{parameters-view}
+use Rattle.grammar.specs.Says.{Says}
+use Rattle.maker.specs.declared.make.Made.the-variants as made
+use Rattle.table.proofs.Accepting.{accepted-ruled}
+use Rattle.framing.specs.Reading.{rawOf}
+use Rattle.framing.specs.declared.read.Reading.{Reading}
+use Rattle.carding.specs.Layout.{frameAt, sourceAt, rawAt, Carries}
+use Rattle.carding.specs.Search.{FirstFrame}
+use Rattle.carding.specs.Answer.{cardedNumber}
+use Rattle.carding.specs.declared.carded.Carded.the-variants.{Found}
+use Rattle.carding.proofs.Back.{carried}
+use Rattle.carding.proofs.Straight.{straight, straight-bit}
+use Rattle.demands.specs.Calls.{Calls}
+use Rattle.demands.specs.Refusing.{componentsOf, firstBroken, cardRules}
+use Rattle.demands.specs.Demands.{HasSample, answerFor, Fitting, SameAnswers, SameBits, Demands}
+use Rattle.demands.proofs.Cards.{Findable, findable}
+
+-- what a read of sample j of parameter q must answer, by the sheet and the card: its bits joined where they stand in the stream
+abbrev pub readFrom : Content → List ℕ → ℕ → ℕ → ℕ → Reading
+readFrom c y p q j = answerFor c q j (rawAt c y p (q - 1) (j - 1))
+
+-- a card found at p, by a table t that says c
+pub record CardAsSaid (B : Calls) (t y : List ℕ) (from : ℕ) (w : List ℕ) (p n : ℕ) (c : Content) : Type 0 where
+  pub first : FirstFrame c y from p
+  pub carries : Carries c y p (take n (B .handedFrom t y from w))
+  pub reads : (q j : ℕ) → HasSample c q j → B .read t (take n (B .handedFrom t y from w)) q j ≡ readFrom c y p q j
+
+-- two cards' streams agree at every bit that some component names, each counted from its own frame's position
+pub record SameStreams (c : Content) (y : List ℕ) (p : ℕ) (z : List ℕ) (q : ℕ) : Type 0 where
+  pub each : (k j : ℕ) → HasSample c k j → (x : Place) → Named (componentsOf c k j) x → sourceAt c y p x ≡ sourceAt c z q x
+
+positions : {p q k m : ℕ} → Found p k ≡ Found q m → (p ≡ q) × (k ≡ m)
+positions e = ((cc), (cc))
+
+module _ (B : Calls) (D : Demands B) where
+  module _ (t y : List ℕ) (from : ℕ) (w : List ℕ) (p n : ℕ) (e : B .cardFrom t y from w ≡ Found p n) where
+    unbroken : firstBroken (cardRules t y from w) ≡ 0
+    unfolding cardedNumber
+    unbroken = sym (D .one .cards t y from w) ∙ ap cardedNumber e
+
+    fits : Findable t y from w
+    fits = findable t y from w unbroken
+
+    abbrev handed : List ℕ
+    handed = take n (B .handedFrom t y from w)
+
+    -- the frame handed out is the one at p
+    found-first : FirstFrame (view t) y from p
+    found-first =
+        let f = D .two .found t y from w unbroken in
+        subst (FirstFrame (view t) y from) (positions (sym (f .is) ∙ e) .0) (f .first)
+
+    found-carries : Carries (view t) y p handed
+    found-carries =
+        let f = D .two .found t y from w unbroken in
+        let q = positions (sym (f .is) ∙ e) in
+        subst (λ (k : ℕ). Carries (view t) y p (take k (B .handedFrom t y from w))) (q .1)
+        (subst (λ (k : ℕ). Carries (view t) y k (take (frameWords (view t)) (B .handedFrom t y from w))) (q .0) (f .words))
+
+    handed-is : handed ≡ frameAt (view t) y p
+    handed-is = sym (carried (view t) handed found-carries)
+
+    module _ (q j : ℕ) (l : HasSample (view t) q j) where
+      listed : q - 1 < parametersIn t
+      listed = omega (arith, parameters-view t, l .parameter-least, l .parameter-most)
+
+      sampled : j - 1 < length (parameter (view t) (q - 1) .samples)
+      sampled = omega (arith, l .sample-least, l .sample-most)
+
+      raw-straight : join handed (componentsOf (view t) q j) ≡ rawAt (view t) y p (q - 1) (j - 1)
+      unfolding componentsOf rawOf
+      raw-straight =
+          ap (λ (f : List ℕ). join f (componentsOf (view t) q j)) handed-is
+          ∙ sym (straight t y p (q - 1) (j - 1) (accepted-ruled t (fits .accepted)) listed sampled)
+
+      bit-straight : (x : Place) → Named (componentsOf (view t) q j) x → bitIn handed x ≡ sourceAt (view t) y p x
+      unfolding componentsOf
+      bit-straight x h =
+          ap (λ (f : List ℕ). bitIn f x) handed-is
+          ∙ sym (straight-bit t y p (q - 1) (j - 1) (accepted-ruled t (fits .accepted)) listed sampled x h)
+
+      read-straight : B .read t handed q j ≡ readFrom (view t) y p q j
+      read-straight =
+          D .two .joined t handed q j (D .three .handed-fits t y from w p n e .fitting) l ∙ ap (answerFor (view t) q j) raw-straight
+
+    pub card-as-said : CardAsSaid B t y from w p n (view t)
+    card-as-said = record { first = found-first; carries = found-carries; reads = read-straight }
+
+  -- the whole way: a sheet, its table, a card, the value
+  pub card-to-value : (s l : List ℕ) (n : ℕ) (c : Content) → Says s c → B .make s l ≡ made.Length n
+      → (y : List ℕ) (from : ℕ) (w : List ℕ) (p k : ℕ) → B .cardFrom (take n (B .made s l)) y from w ≡ Found p k
+      → CardAsSaid B (take n (B .made s l)) y from w p k c
+  card-to-value s l n c h m y from w p k e =
+      subst (CardAsSaid B (take n (B .made s l)) y from w p k) (D .two .sheet .says s l n c m h)
+      (card-as-said (take n (B .made s l)) y from w p k e)
+
+  -- demand 3 over cards: two of them give equal answers for all samples exactly when their streams agree at every named bit
+  module _ (t y : List ℕ) (from : ℕ) (w : List ℕ) (p n : ℕ) (e : B .cardFrom t y from w ≡ Found p n)
+      (z : List ℕ) (since : ℕ) (v : List ℕ) (q m : ℕ) (d : B .cardFrom t z since v ≡ Found q m) where
+    abbrev f : List ℕ
+    f = take n (B .handedFrom t y from w)
+
+    abbrev g : List ℕ
+    g = take m (B .handedFrom t z since v)
+
+    frames : SameAnswers B t f g ↔ SameBits t f g
+    frames = D .three .exactly t f g (D .three .handed-fits t y from w p n e .fitting) (D .three .handed-fits t z since v q m d .fitting)
+
+    pub cards-exactly : SameAnswers B t f g ↔ SameStreams (view t) y p z q
+    cards-exactly = (
+      λ a. record { each = λ k j l x h. sym (bit-straight t y from w p n e k j l x h) ∙ frames .0 a .each k j l x h ∙ bit-straight t z since v q m d k j l x h },
+      λ s. frames .1 (record { each = λ k j l x h. bit-straight t y from w p n e k j l x h ∙ s .each k j l x h ∙ sym (bit-straight t z since v q m d k j l x h) }),
+    )

@@ -1,0 +1,242 @@
+-- Useless versions of reading cards: no bench that has one meets the demands. Each is put as what it would answer for every table,
+-- stream and position, and fails on a card of the wall's words, or one like it. Assumes nothing.
+use Prim.Native.Nat.{ℕ, _+_, _-_, _*_, _/_, _%_, _≤_, _<_}
+use native.Mathlib.Omega.{arith}
+use native.Mathlib.Decide.{decLt}
+use mathlib.Core.Bool.{Bool, true, false}
+use mathlib.Core.Path.{_≡_, refl, sym, ap, subst, _∙_}
+use mathlib.Core.List.{List, [], _∷_}
+use borrow.Author.Tests.{le-leb}
+use lib.Dec.{leb}
+use lib.ListN.{length, getD, take}
+use Rattle.bits.specs.Word.{bitAt, field}
+use Rattle.lay.specs.Below.{every, any}
+use Rattle.lay.specs.Bytes.{same}
+use Rattle.lay.proofs.Below.{any-made}
+use Rattle.lay.proofs.Tests.{and-both, differ}
+use Rattle.ratio.specs.Ratio.{gcdIn, gcd, lowest}
+use Rattle.sample.specs.Joining.{partOf, join, width}
+use Rattle.sample.specs.Clash.{clash, clashAny, twice}
+use Rattle.sample.specs.Flat.{sum, before, position}
+use Rattle.model.specs.Accepts.{accepts}
+use Rattle.model.specs.Content.{Content, subframe, subframes, parameters, allSamples, firstSample, firstComponent}
+use Rattle.model.specs.Frame.{frameWords}
+use Rattle.model.specs.Samples.{wordCounts, piece, pieces, widthOf}
+use Rattle.model.specs.Rules.{secondsOk, subframeOk, componentOk, sampleOk, byteOk, textOk, parameterOk}
+use Rattle.model.specs.Identifiers.{namedApart, newlyNamed, identifierOk, identifiedApart, identifies, taken, identifiersOk}
+use Rattle.model.specs.View.{view}
+use Rattle.model.specs.Lawful.{lawful}
+use Rattle.model.specs.Limits.{base}
+use Rattle.model.specs.Wall.{wall, sync, pitch}
+use Rattle.model.specs.Write.{write}
+use Rattle.model.proofs.Built.{view-write, write-accepted}
+use Rattle.model.proofs.WallCase.{wall-lawful}
+use Rattle.model.proofs.TwoSubframes.{two, two-lawful}
+use Rattle.table.specs.Answers.{checkOf, checkNumber}
+use Rattle.table.specs.declared.check.Checked.the-variants.{Table}
+use Rattle.framing.specs.Reading.{rawOf}
+use Rattle.framing.specs.Comparing.{differsAt, differsIn, comparedIn, comparedNumber}
+use Rattle.stream.specs.Stream.{streamBit, bitsFrom}
+use Rattle.carding.specs.Layout.{subframeBits, bitsBefore, frameBits, wordsBegin, wordBegins, wordIn, frameAt, Carries}
+use Rattle.carding.specs.Search.{wholeAt, agreesAt, soughtAt, FirstFrame}
+use Rattle.carding.specs.Answer.{cardedNumber}
+use Rattle.carding.specs.declared.carded.Carded.the-variants.{Found, NoFrame}
+use Rattle.carding.proofs.Back.{carried}
+use Rattle.demands.specs.Calls.{Calls}
+use Rattle.demands.specs.Refusing.{firstBroken, cardRules}
+use Rattle.demands.specs.Demands.{Demands}
+use Rattle.demands.proofs.CardEnd.{CardAsSaid, card-as-said}
+use Rattle.demands.proofs.Unbroken.{holds-first}
+use Rattle.demands.proofs.Told.{same-checked}
+use Rattle.demands.proofs.Wall.{words}
+
+-- ---- the wall's words on a card, at its first bit and behind four zeros; no margins
+
+abbrev card : List ℕ
+card = 71 ∷ 82 ∷ 0 ∷ 0 ∷ 96 ∷ 0 ∷ []
+
+abbrev shifted : List ℕ
+shifted = 112 ∷ 36 ∷ 5 ∷ 0 ∷ 0 ∷ 6 ∷ 0 ∷ []
+
+card-whole : wholeAt wall card 0 ≡ true
+unfolding wholeAt bitsBefore subframeBits
+card-whole = refl
+
+card-agrees : agreesAt wall card 0 ≡ true
+unfolding agreesAt comparedNumber comparedIn differsIn differsAt rawOf join partOf pieces piece wordCounts position before sum frameAt wordIn wordBegins wordsBegin bitsBefore subframeBits bitsFrom streamBit bitAt field
+card-agrees = refl
+
+shifted-whole : wholeAt wall shifted 4 ≡ true
+unfolding wholeAt bitsBefore subframeBits
+shifted-whole = refl
+
+shifted-agrees : agreesAt wall shifted 4 ≡ true
+unfolding agreesAt comparedNumber comparedIn differsIn differsAt rawOf join partOf pieces piece wordCounts position before sum frameAt wordIn wordBegins wordsBegin bitsBefore subframeBits bitsFrom streamBit bitAt field
+shifted-agrees = refl
+
+-- at its first bit the shifted one has no frame
+shifted-differs : agreesAt wall shifted 0 ≡ false
+unfolding agreesAt comparedNumber comparedIn differsIn differsAt rawOf join partOf pieces piece wordCounts position before sum frameAt wordIn wordBegins wordsBegin bitsBefore subframeBits bitsFrom streamBit bitAt field
+shifted-differs = refl
+
+-- the frame one bit further on begins with another word
+later-word : getD (frameAt wall card 1) 0 0 ≡ 2339
+unfolding frameAt wordIn wordBegins wordsBegin bitsBefore subframeBits bitsFrom streamBit bitAt
+later-word = refl
+
+first-word : getD (frameAt wall card 0) 0 0 ≡ 583
+unfolding frameAt wordIn wordBegins wordsBegin bitsBefore subframeBits bitsFrom streamBit bitAt
+first-word = refl
+
+-- ---- the wall with eight trailing bits, and a card that ends before them
+
+abbrev trailed : Content
+trailed =
+    record {
+      sequential = true;
+      subframes = record { bits = 12; words = 4; leading = 0; trailing = 8; numerator = 1; denominator = 1 } ∷ [];
+      parameters = sync ∷ pitch ∷ [];
+    }
+
+trailed-lawful : lawful base trailed ≡ true
+unfolding every same gcdIn gcd lowest width clash clashAny twice sum before position allSamples firstSample firstComponent wordCounts piece pieces widthOf secondsOk subframeOk componentOk sampleOk byteOk textOk parameterOk namedApart newlyNamed identifierOk identifiedApart identifies taken identifiersOk lawful
+trailed-lawful = refl
+
+trailed-agrees : agreesAt trailed card 0 ≡ true
+unfolding agreesAt comparedNumber comparedIn differsIn differsAt rawOf join partOf pieces piece wordCounts position before sum frameAt wordIn wordBegins wordsBegin bitsBefore subframeBits bitsFrom streamBit bitAt field
+trailed-agrees = refl
+
+trailed-bits : frameBits trailed ≡ 56
+unfolding bitsBefore subframeBits
+trailed-bits = refl
+
+trailed-nowhere : any 49 (soughtAt trailed card 0) ≡ false
+unfolding wholeAt bitsBefore subframeBits
+trailed-nowhere = refl
+
+-- ---- two subframes: the first one's identifier 1, the second one's not 2
+
+abbrev half : List ℕ
+half = 1 ∷ 0 ∷ 0 ∷ 0 ∷ 0 ∷ 0 ∷ []
+
+half-whole : wholeAt two half 0 ≡ true
+unfolding wholeAt bitsBefore subframeBits
+half-whole = refl
+
+half-first : differsIn two (frameAt two half 0) 1 ≡ false
+unfolding differsIn differsAt rawOf join partOf pieces piece wordCounts position before sum frameAt wordIn wordBegins wordsBegin bitsBefore subframeBits bitsFrom streamBit bitAt field
+half-first = refl
+
+half-nowhere : any 49 (soughtAt two half 0) ≡ false
+unfolding wholeAt agreesAt comparedNumber comparedIn differsIn differsAt rawOf join partOf pieces piece wordCounts position before sum frameAt wordIn wordBegins wordsBegin bitsBefore subframeBits bitsFrom streamBit bitAt field
+half-nowhere = refl
+
+-- ---- what a bench that meets the demands answers by the table of lawful Content
+
+-- the high bit of a byte first
+abbrev highBit : List ℕ → ℕ → ℕ
+highBit y k = bitAt (getD y (k / 8) 0) (7 - k % 8)
+
+-- what is found, and where
+record CardRead (B : Calls) (c : Content) (y w : List ℕ) : Type 0 where
+  at : ℕ
+  count : ℕ
+  is : B .cardFrom (write 1 c) y 0 w ≡ Found at count
+  said : CardAsSaid B (write 1 c) y 0 w at count c
+
+module _ (B : Calls) (D : Demands B) (c : Content) (h : lawful base c ≡ true) (some : leb 1 (parameters c) ≡ true) where
+  checked : B .check (write 1 c) ≡ Table
+  unfolding firstBroken
+  checked = same-checked (B .check (write 1 c)) (accepts (write 1 c)) (D .one .tables (write 1 c)) ∙ rw (write-accepted c h)
+
+  module _ (y w : List ℕ) (short : leb (length y) 65536 ≡ true) where
+    none-read : any (8 * length y + 1) (soughtAt c y 0) ≡ false → cardedNumber (B .cardFrom (write 1 c) y 0 w) ≡ 25
+    unfolding firstBroken
+    none-read n = D .one .cards (write 1 c) y 0 w ∙ rw (write-accepted c h, view-write c h, some, short, n)
+
+    card-read : (k : ℕ) → wholeAt c y k ≡ true → agreesAt c y k ≡ true → k < 8 * length y + 1 → leb (frameWords c) (length w) ≡ true → CardRead B c y w
+    unfolding firstBroken
+    card-read k a b l room =
+        let n = any-made (8 * length y + 1) (soughtAt c y 0) k l (and-both (le-leb 0 k (omega arith)) (and-both a b)) in
+        let f = D .two .found (write 1 c) y 0 w (rw (write-accepted c h, view-write c h, some, short, n, room)) in
+        record { at = f .position; count = frameWords (view (write 1 c)); is = f .is; said = subst (CardAsSaid B (write 1 c) y 0 w (f .position) (frameWords (view (write 1 c)))) (view-write c h) (card-as-said B D (write 1 c) y 0 w (f .position) (frameWords (view (write 1 c))) (f .is)) }
+
+module _ (B : Calls) (D : Demands B) where
+  wall-card : CardRead B wall card words
+  unfolding frameWords
+  wall-card = card-read B D wall wall-lawful refl card words refl 0 card-whole card-agrees (omega arith) refl
+
+  wall-shifted : CardRead B wall shifted words
+  unfolding frameWords
+  wall-shifted = card-read B D wall wall-lawful refl shifted words refl 4 shifted-whole shifted-agrees (omega arith) refl
+
+  -- always 25
+  pub some-card-read : ((t y : List ℕ) (from : ℕ) (w : List ℕ) → B .cardFrom t y from w ≡ NoFrame) → ⊥
+  some-card-read u = let e = sym (u (write 1 wall) card 0 words) ∙ wall-card .is in let z : _≡_ {A = ℕ} 0 1 = cc in omega arith
+
+  -- steps by whole bytes
+  pub not-whole-bytes : ((t y : List ℕ) (from : ℕ) (w : List ℕ) (p n : ℕ) → B .cardFrom t y from w ≡ Found p n → p % 8 ≡ 0) → ⊥
+  not-whole-bytes u = go (wall-shifted .at) (u (write 1 wall) shifted 0 words (wall-shifted .at) (wall-shifted .count) (wall-shifted .is)) (wall-shifted .said .first)
+    where
+      go : (p : ℕ) → p % 8 ≡ 0 → FirstFrame wall shifted 0 p → ⊥
+      go p e f = past (decLt 4 p)
+        where
+          past : Dec (4 < p) → ⊥
+          past (yes l) = f .none-earlier 4 (omega arith) l shifted-whole shifted-agrees
+          past (no l) =
+              let z : p ≡ 0 = omega arith in
+              differ shifted-differs (subst (λ (k : ℕ). agreesAt wall shifted k ≡ true) z (f .agrees))
+
+  -- only subframe 1's identifier compared: no 25 where it agrees
+  pub all-identifiers-compared : ((t y : List ℕ) (from : ℕ) (w : List ℕ) (k : ℕ) → B .check t ≡ Table → from ≤ k → wholeAt (view t) y k ≡ true
+      → differsIn (view t) (frameAt (view t) y k) 1 ≡ false → cardedNumber (B .cardFrom t y from w) ≡ 25 → ⊥) → ⊥
+  all-identifiers-compared u =
+      u (write 1 two) half 0 words 0 (checked B D two two-lawful refl) (omega arith)
+      (rw (view-write two two-lawful) half-whole)
+      (rw (view-write two two-lawful) half-first)
+      (none-read B D two two-lawful refl half words refl half-nowhere)
+
+  -- the trailing bits not asked: no 25 where all but the last ones are there
+  pub trailing-bits-asked : ((t y : List ℕ) (from : ℕ) (w : List ℕ) (k : ℕ) → B .check t ≡ Table → from ≤ k
+      → k + frameBits (view t) ≤ 8 * length y + subframe (view t) (subframes (view t) - 1) .trailing
+      → agreesAt (view t) y k ≡ true → cardedNumber (B .cardFrom t y from w) ≡ 25 → ⊥) → ⊥
+  trailing-bits-asked u =
+      u (write 1 trailed) card 0 words 0 (checked B D trailed trailed-lawful refl) (omega arith)
+      (rw (view-write trailed trailed-lawful) (omega (arith, trailed-bits)))
+      (rw (view-write trailed trailed-lawful) trailed-agrees)
+      (none-read B D trailed trailed-lawful refl card words refl trailed-nowhere)
+
+  -- where the wall's card is found
+  at-first : wall-card .at ≡ 0
+  at-first = go (wall-card .at) (wall-card .said .first)
+    where
+      go : (p : ℕ) → FirstFrame wall card 0 p → p ≡ 0
+      go p f = past (decLt 0 p)
+        where
+          past : Dec (0 < p) → p ≡ 0
+          past (yes l) = absurd (f .none-earlier 0 (omega arith) l card-whole card-agrees)
+          past (no l) = omega arith
+
+  abbrev handed : List ℕ
+  handed = take (wall-card .count) (B .handedFrom (write 1 wall) card 0 words)
+
+  handed-is : handed ≡ frameAt wall card 0
+  handed-is = sym (carried wall handed (wall-card .said .carries)) ∙ ap (frameAt wall card) at-first
+
+  -- the high bit of a byte first: of the first word's lowest bit
+  pub low-bit-first : ((t y : List ℕ) (from : ℕ) (w : List ℕ) (p n : ℕ) → B .cardFrom t y from w ≡ Found p n
+      → bitAt (getD (take n (B .handedFrom t y from w)) 0 0) 0 ≡ highBit y (p + wordBegins (view t) 0 0)) → ⊥
+  unfolding bitAt wordBegins wordsBegin bitsBefore
+  low-bit-first u =
+      let e = u (write 1 wall) card 0 words (wall-card .at) (wall-card .count) (wall-card .is) in
+      let a : bitAt (getD handed 0 0) 0 ≡ 1 = ap (λ (f : List ℕ). bitAt (getD f 0 0) 0) handed-is ∙ ap (λ (x : ℕ). bitAt x 0) first-word in
+      let b : highBit card (wall-card .at + wordBegins (view (write 1 wall)) 0 0) ≡ 0 = rw (at-first, view-write wall wall-lawful) refl in
+      omega (arith, a, b, e)
+
+  -- the words of another position
+  pub not-another-position : ((t y : List ℕ) (from : ℕ) (w : List ℕ) (p n : ℕ) → B .cardFrom t y from w ≡ Found p n
+      → take n (B .handedFrom t y from w) ≡ frameAt (view t) y (p + 1)) → ⊥
+  not-another-position u =
+      let e = u (write 1 wall) card 0 words (wall-card .at) (wall-card .count) (wall-card .is) in
+      let a : frameAt wall card 0 ≡ frameAt wall card 1 = sym handed-is ∙ e ∙ rw (at-first, view-write wall wall-lawful) refl in
+      omega (arith, first-word, later-word, ap (λ (f : List ℕ). getD f 0 0) a)
