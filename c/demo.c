@@ -62,6 +62,10 @@ static int is_name(orb_name n, uint32_t number, size_t start, size_t length) {
     return n.number == number && n.start == start && n.length == length;
 }
 
+static int is_carded(orb_carded c, uint32_t number, uint32_t position, uint32_t count) {
+    return c.number == number && c.position == position && c.count == count;
+}
+
 /* the four words of a frame */
 static int is_frame(const uint16_t *words, uint16_t a, uint16_t b, uint16_t c, uint16_t d) {
     return words[0] == a && words[1] == b && words[2] == c && words[3] == d;
@@ -154,6 +158,31 @@ static void naming(const uint8_t *table) {
     answer(is_name(orb_name_by(table, 133, bytes("PCH"), 3), 18, 0, 0), "a mnemonic without a table: 18");
 }
 
+/* The wall's sheet with three leading bits and one trailing: its table, which the wall's has but for two bytes. */
+static void carding(uint8_t *table) {
+    static uint8_t longer[65537];
+    const uint8_t stream[7] = {0xa0, 0x23, 0x29, 0, 0, 0x30, 0x80};
+    uint16_t words[5] = {7, 7, 7, 7, 7};
+    table[40] = 3;
+    table[42] = 1;
+    answer(orb_frame_bits(table, 134) == 52, "a frame has 52 bits");
+    answer(orb_frame_bits(table, 133) == 0, "no table has none");
+    answer(is_carded(orb_card(table, 133, stream, 7, words, 5), 18, 0, 0), "a card without a table: 18");
+    answer(is_carded(orb_card(table, 134, longer, 65537, words, 5), 38, 0, 0), "65,537 bytes: 38");
+    answer(is_carded(orb_card(table, 134, stream, 6, words, 5), 25, 0, 0), "one byte less: 25");
+    answer(is_carded(orb_card(table, 134, NULL, 0, words, 5), 25, 0, 0), "an empty card: 25");
+    answer(is_carded(orb_card(table, 134, stream, 7, words, 3), 28, 0, 0), "three words lent: 28");
+    answer(is_carded(orb_card_from(table, 134, stream, 7, 5, words, 5), 25, 0, 0), "from bit 5 on: 25");
+    answer(is_carded(orb_card_from(table, 134, stream, 7, 4294967295u, words, 5), 25, 0, 0), "from beyond the end: 25");
+    answer(is_frame(words, 7, 7, 7, 7), "no refused card writes a word");
+    answer(is_carded(orb_card(table, 134, stream, 7, words, 5), 0, 4, 4), "the frame stands behind four bits");
+    answer(is_frame(words, 583, 5, 0, 6) && words[4] == 7, "its words are handed out, the next one stays");
+    answer(is_carded(orb_card_from(table, 134, stream, 7, 4, words, 5), 0, 4, 4), "from bit 4 on it is found too");
+    answer(is_sample(orb_read(table, 134, words, 4, 2, 1), 6, 53, -11), "and Pitch reads 53, that is -11");
+    table[40] = 0;
+    table[42] = 0;
+}
+
 int main(void) {
     uint8_t table[200];
     for (size_t i = 0; i < sizeof table; i++) {
@@ -165,6 +194,7 @@ int main(void) {
     placing(table);
     comparing(table);
     naming(table);
+    carding(table);
     if (wrong != 0) {
         return 1;
     }

@@ -2,7 +2,7 @@
  * target/staticlib/libffi.a. It is for x86-64 Linux alone, and of the C library it needs memcpy and memset.
  *
  * Every call answers for every input, keeps nothing between calls, and asks for no memory. What it answers and what it
- * leaves in the lent bytes and words is proved. `number` is 0, or 01's number of the refusal; a refusal writes nothing.
+ * leaves in the lent bytes and words is proved. `number` is 0, or the refusal's number (docs/REFUSALS.md); a refusal writes nothing.
  * Lines, parameters, samples and subframes are counted from 1.
  *
  * The caller's duties, which no proof covers:
@@ -10,7 +10,7 @@
  *     with length 0 the pointer may be any, also null;
  *   - words are aligned for uint16_t;
  *   - what a call writes overlaps nothing else it is lent: the sheet and the table of orb_make, the table and the words
- *     of orb_place;
+ *     of orb_place, the table, the stream and the words of orb_card and orb_card_from;
  *   - nobody changes what is lent while a call runs;
  *   - the stack has room: 64 kilobytes for orb_make, 8 for each other call (46 and 3 were measured).
  */
@@ -54,6 +54,14 @@ typedef struct {
     size_t length;
 } orb_name;
 
+/* number 0: position is the number of bits before the frame, count its words, which stand at the front of the lent ones. Else
+ * both are 0. */
+typedef struct {
+    uint32_t number;
+    uint32_t position;
+    uint32_t count;
+} orb_carded;
+
 /* The sheet's table at the front of the bytes lent for it; later bytes stay. Refuses with 1 to 17. */
 orb_made orb_make(const uint8_t *sheet, size_t sheet_len, uint8_t *table, size_t table_len);
 
@@ -77,6 +85,21 @@ orb_name orb_name_of(const uint8_t *table, size_t table_len, uint32_t parameter)
 
 /* The name of the parameter with this mnemonic. Refuses with 18 or 21; an empty mnemonic is 21. */
 orb_name orb_name_by(const uint8_t *table, size_t table_len, const uint8_t *mnemonic, size_t mnemonic_len);
+
+/* The first frame on a quick access card: the first bit position at which a whole frame fits, its last trailing bit too, and
+ * every record identifier agrees. The stream takes the low bit of each byte and of each word first. Refuses with 18, 27 (no
+ * parameters), 38 (more than 65,536 bytes), 25 (no such position) or 28 (too few words lent), tested in this order. Words beyond
+ * the frame's stay. */
+orb_carded orb_card(const uint8_t *table, size_t table_len, const uint8_t *stream, size_t stream_len, uint16_t *words,
+                    size_t words_len);
+
+/* The same from bit position from on, any number: beyond the stream's end it is 25. A card's next frame is looked for from the
+ * last one's position plus the frame's bits on. */
+orb_carded orb_card_from(const uint8_t *table, size_t table_len, const uint8_t *stream, size_t stream_len, uint32_t from,
+                         uint16_t *words, size_t words_len);
+
+/* How many bits a frame has on a card: every subframe's leading bits, words and trailing bits. 0 where the bytes are no table. */
+uint32_t orb_frame_bits(const uint8_t *table, size_t table_len);
 
 #ifdef __cplusplus
 }

@@ -17,6 +17,15 @@ orb_sample plain_read(const uint8_t *table, size_t table_len, const uint16_t *wo
 size_t plain_read_all(const uint8_t *table, size_t table_len, const uint16_t *words, size_t words_len, int64_t *values,
                       size_t room, uint32_t times);
 
+/* A card's first frame from a bit on: position by position; as the library looks for it; by windows of 64 bits, the quickest
+ * found. */
+orb_carded each_card_from(const uint8_t *table, size_t table_len, const uint8_t *stream, size_t stream_len, uint32_t from,
+                          uint16_t *words, size_t words_len);
+orb_carded plain_card_from(const uint8_t *table, size_t table_len, const uint8_t *stream, size_t stream_len, uint32_t from,
+                           uint16_t *words, size_t words_len);
+orb_carded quick_card_from(const uint8_t *table, size_t table_len, const uint8_t *stream, size_t stream_len, uint32_t from,
+                           uint16_t *words, size_t words_len);
+
 /* Numbers in a table's bytes, the lowest byte first. */
 static inline uint32_t get2(const uint8_t *t) { return t[0] | (uint32_t)t[1] << 8; }
 

@@ -14,13 +14,14 @@ static const bool all_samples = true;
 static const bool all_samples = false;
 #endif
 
-enum { ROUNDS = 31, FRAMES = 32, LENT = 70000, VALUES = 4096, WORDS = 1024 };
+enum { ROUNDS = 31, FRAMES = 32, LENT = 70000, VALUES = 4096, WORDS = 1024, STREAM = 65536 };
 
 static char sheet[70000];
 static size_t sheet_length;
 static uint8_t proved_table[LENT], plain_table[LENT];
 static size_t table_length;
 static uint16_t words[WORDS];
+static uint8_t stream[STREAM];
 static size_t word_count;
 static int64_t proved_values[VALUES], plain_values[VALUES];
 static uint32_t last_parameter, last_sample;
@@ -86,6 +87,22 @@ static void sampled_much(uint32_t count) {
     }
 }
 
+/* So many subframes of 64 words, an identifier of 12 bits in the first word of each: 583, 1464, 2631, 3512. */
+static void carded(uint32_t subframes) {
+    static const uint32_t marks[4] = {583, 1464, 2631, 3512};
+    sheet_length = 0;
+    word_count = 64 * subframes;
+    sheet_length += (size_t)sprintf(sheet, "HEADER:\n2.0,A,TypeX,,,001,,,True,,,%u,,\n", subframes);
+    for (uint32_t i = 0; i < subframes; i++) {
+        say("RECORD:\n12,64,0,0,1.0\n");
+    }
+    for (uint32_t i = 0; i < subframes; i++) {
+        sheet_length += (size_t)sprintf(
+            sheet + sheet_length, "PARAMETER:\nSync%u,,,True,,,\n%u,1,0,1-12\n0\n\nFalse,,,,\n%u,,,\n,,\n\n\n", i + 1, i + 1,
+            marks[i]);
+    }
+}
+
 /* ---- the same answers ---- */
 
 static void same(bool is_same, const char *what, const char *size) {
@@ -147,6 +164,19 @@ static double now(void) {
 
 typedef void job(void);
 
+static void proved_card(void) {
+    kept += 1 + orb_card(proved_table, table_length, stream, STREAM, words, WORDS).position;
+}
+static void c_card(void) {
+    kept += 1 + plain_card_from(proved_table, table_length, stream, STREAM, 0, words, WORDS).position;
+}
+static void each_card(void) {
+    kept += 1 + each_card_from(proved_table, table_length, stream, STREAM, 0, words, WORDS).position;
+}
+static void quick_card(void) {
+    kept += 1 + quick_card_from(proved_table, table_length, stream, STREAM, 0, words, WORDS).position;
+}
+
 static void proved_make(void) { kept += orb_make((uint8_t *)sheet, sheet_length, proved_table, LENT).at; }
 static void c_make(void) { kept += plain_make((uint8_t *)sheet, sheet_length, plain_table, LENT).at; }
 static void proved_check(void) { kept += orb_check(proved_table, table_length); }
@@ -194,7 +224,7 @@ static void timed(job *proved, job *plain, double *a, double *b) {
 }
 
 static void line(const char *what, const char *size, double a, double b, const char *goal) {
-    printf("| %-25s | %-21s | %10.2f | %10.2f | %6.2f | %-4s |\n", what, size, a, b, a / b, goal);
+    printf("| %-26s | %-21s | %10.2f | %10.2f | %6.2f | %-4s |\n", what, size, a, b, a / b, goal);
 }
 
 static void measured_frames(const char *size) {
@@ -224,8 +254,58 @@ static void measured(const char *size) {
     line("one read with its check", size, a, b, "");
 }
 
+/* A stream of pseudo-random bits; where one identifier alone would be met by chance its bits are broken, so that nothing fits. */
+static void random_stream(uint32_t subframes) {
+    uint64_t x = 88172645463325252u;
+    for (size_t i = 0; i < STREAM; i++) {
+        x ^= x << 13;
+        x ^= x >> 7;
+        x ^= x << 17;
+        stream[i] = (uint8_t)(x >> 32);
+    }
+    orb_carded found = plain_card_from(proved_table, table_length, stream, STREAM, 0, words, WORDS);
+    while (subframes == 1 && found.number == 0) {
+        stream[found.position / 8] ^= (uint8_t)(1u << found.position % 8);
+        found = plain_card_from(proved_table, table_length, stream, STREAM, found.position / 16 * 16, words, WORDS);
+    }
+}
+
+static bool same_carded(orb_carded a, orb_carded b) {
+    return a.number == b.number && a.position == b.position && a.count == b.count;
+}
+
+/* All four on streams with and without a frame, from many bits on. */
+static void same_cards(const char *size) {
+    static uint16_t others[WORDS];
+    uint8_t last = stream[40000];
+    for (uint32_t from = 0; from < 8 * STREAM + 100; from += 4999) {
+        stream[40000] = (uint8_t)(last + from);
+        orb_carded a = orb_card_from(proved_table, table_length, stream, STREAM, from, words, WORDS);
+        same(same_carded(a, plain_card_from(proved_table, table_length, stream, STREAM, from, others, WORDS)), "card", size);
+        same(a.number != 0 || memcmp(words, others, 2 * a.count) == 0, "card, words", size);
+        same(same_carded(a, each_card_from(proved_table, table_length, stream, STREAM, from, others, WORDS)), "card", size);
+        same(same_carded(a, quick_card_from(proved_table, table_length, stream, STREAM, from, others, WORDS)), "card", size);
+    }
+    stream[40000] = last;
+}
+
+static void measured_card(uint32_t subframes, const char *size) {
+    double a, b;
+    carded(subframes);
+    same_made(size);
+    random_stream(subframes);
+    same_cards(size);
+    same(orb_card(proved_table, table_length, stream, STREAM, words, WORDS).number == 25, "card, 25", size);
+    timed(proved_card, c_card, &a, &b);
+    line("card in which nothing fits", size, a, b, "1.25");
+    timed(proved_card, quick_card, &a, &b);
+    line("card, by windows of 64", size, a, b, "2");
+    timed(proved_card, each_card, &a, &b);
+    line("card, position by position", size, a, b, "");
+}
+
 int main(void) {
-    printf("| %-25s | %-21s | %10s | %10s | %6s | %-4s |\n", "what", "size", "proved us", "plain us", "ratio", "goal");
+    printf("| %-26s | %-21s | %10s | %10s | %6s | %-4s |\n", "what", "size", "proved us", "plain us", "ratio", "goal");
     printf("|---|---|---|---|---|---|\n");
     wall();
     measured("wall, 2 parameters");
@@ -236,6 +316,8 @@ int main(void) {
     measured("64 KB, 512 parameters");
     sampled_much(64);
     measured("4,096 samples");
+    measured_card(1, "64 KB, 1 identifier");
+    measured_card(4, "64 KB, 4 identifiers");
     printf("%d differences\n", differences);
     return differences != 0 || kept == 0;
 }

@@ -1,5 +1,6 @@
 -- A stream of bits: "takes the low bit of each byte .. first".
 use mathlib.Core.Path.{_≡_}
+use mathlib.Core.Bool.{Bool, true}
 use mathlib.Core.List.{List}
 use Prim.Native.Nat.{ℕ, _+_, _*_, _/_, _%_, _^_, _≤_, _<_}
 use lib.ListN.{length, getD}
@@ -24,8 +25,12 @@ pub record Skips (y : List ℕ) (k n want r : ℕ) : Type 0 where
   pub unlike : (j : ℕ) → k ≤ j → j < r → bitsFrom y j n ≡ want → ⊥
   pub near : r ≤ k + 8 * length y
 
--- the same for the bits of one number from bit s on, none looked at from `to` on
-pub record SkipsIn (v s to n want r : ℕ) : Type 0 where
-  pub after : s ≤ r
-  pub unlike : (j : ℕ) → s ≤ j → j < r → field v j n ≡ want → ⊥
-  pub inside : r ≤ to
+-- r says that from none of the eight lowest bits of v on the n bits are `want`
+pub record EightUnlike (v n want : ℕ) (r : Bool) : Type 0 where
+  pub unlike : r ≡ true → (j : ℕ) → j < 8 → field v j n ≡ want → ⊥
+
+-- r is the larger of p and k
+pub record Later (p k r : ℕ) : Type 0 where
+  pub least : p ≤ r
+  pub other : k ≤ r
+  pub either : k < r → r ≤ p

@@ -1,38 +1,62 @@
-// Positions of a stream passed over, many with each load.
+// Positions of a stream passed over, eight with each load.
 ghost use Prim.Native.Nat.{_≤_, _<_};
 ghost use lib.ListN.{length};
-ghost use Rattle.stream.specs.Stream.{Skips, SkipsIn};
+ghost use Rattle.stream.specs.Stream.{Skips, EightUnlike, Later};
 
-// The first bit from s on, below `to`, from which the n bits of v are `want`, or `to`.
-fn skip_in(v: u64, s: u32, to: u32, n: u32, want: u64) -> u32
-    requires { ⌜ (s ≤ to) × (to ≤ 64) × (n ≤ 16) ⌝ }
-    ensures { λ r. ⌜ SkipsIn v s to n want r ⌝ }
+// From none of the eight lowest bits of v on are the n bits `want`. Shifts by what is written here cost less than by a count.
+fn eight_unlike(v: u64, n: u32, want: u64) -> bool
+    requires { ⌜ n ≤ 16 ⌝ }
+    ensures { λ r. ⌜ EightUnlike v n want r ⌝ }
 {
-    let mut j = s;
-    while j < to {
-        if bits::field_of(v, j, n) == want {
-            return j;
-        }
-        j += 1;
+    if bits::field_of(v, 0, n) == want {
+        return false;
     }
-    to
+    if bits::field_of(v, 1, n) == want {
+        return false;
+    }
+    if bits::field_of(v, 2, n) == want {
+        return false;
+    }
+    if bits::field_of(v, 3, n) == want {
+        return false;
+    }
+    if bits::field_of(v, 4, n) == want {
+        return false;
+    }
+    if bits::field_of(v, 5, n) == want {
+        return false;
+    }
+    if bits::field_of(v, 6, n) == want {
+        return false;
+    }
+    if bits::field_of(v, 7, n) == want {
+        return false;
+    }
+    true
 }
 
-// A position at or behind k before which the n bits are never `want`: eight bytes hold the bits of more than forty positions.
-// Where fewer than eight are left the caller looks at each.
+// A position at or behind k, where a byte begins or k itself, before which the n bits are never `want`. Where fewer than four
+// bytes are left the caller looks at each position.
 pub fn skip_unlike(stream: &[u8], k: usize, n: u32, want: u64) -> usize
     requires { ⌜ (length (now stream) ≤ 65536) × (k < 8589934592) × (n ≤ 16) ⌝ }
     ensures { λ r. ⌜ Skips (now (stream .entry)) k n want r ⌝ }
 {
-    let to = 64 - n;
-    let mut q = k;
-    while q / 8 + 8 <= stream.len() {
-        let s = (q % 8) as u32;
-        let j = skip_in(lay::eight_at(stream, q / 8), s, to, n, want);
-        q += (j - s) as usize;
-        if j < to {
-            return q;
+    let mut a = k / 8;
+    while a + 4 <= stream.len() {
+        if !eight_unlike(lay::four_at(stream, a) as u64, n, want) {
+            return later(8 * a, k);
         }
+        a += 1;
     }
-    q
+    later(8 * a, k)
+}
+
+// The larger of two.
+fn later(p: usize, k: usize) -> usize
+    ensures { λ r. ⌜ Later p k r ⌝ }
+{
+    if p < k {
+        return k;
+    }
+    p
 }
