@@ -80,15 +80,15 @@ static size_t search_each(const uint8_t *stream, size_t length, size_t from, con
     return 8 * length + 1;
 }
 
-/* The first position from k on, where a byte begins or k itself, before which the n bits are never `want`. */
+/* A position from k on before which the n bits are never `want`. */
 static size_t skip_unlike(const uint8_t *stream, size_t length, size_t k, uint32_t n, uint32_t want) {
     size_t a = k / 8;
     for (; a + 4 <= length; a++) {
         uint32_t v;
         memcpy(&v, stream + a, 4);
         for (uint32_t j = 0; j < 8; j++) {
-            if ((v >> j & ((1u << n) - 1)) == want) {
-                return 8 * a < k ? k : 8 * a;
+            if ((v >> j & ((1u << n) - 1)) == want && 8 * a + j >= k) {
+                return 8 * a + j;
             }
         }
     }

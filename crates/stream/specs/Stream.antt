@@ -29,8 +29,14 @@ pub record Skips (y : List ℕ) (k n want r : ℕ) : Type 0 where
 pub record EightUnlike (v n want : ℕ) (r : Bool) : Type 0 where
   pub unlike : r ≡ true → (j : ℕ) → j < 8 → field v j n ≡ want → ⊥
 
--- r is the larger of p and k
-pub record Later (p k r : ℕ) : Type 0 where
-  pub least : p ≤ r
-  pub other : k ≤ r
-  pub either : k < r → r ≤ p
+-- from none of its bits from s to before r on are they; r is at most 8
+pub record FirstLike (v s n want r : ℕ) : Type 0 where
+  pub after : s ≤ r
+  pub unlike : (j : ℕ) → s ≤ j → j < r → field v j n ≡ want → ⊥
+  pub most : r ≤ 8
+
+-- position k stands at bit r of byte a, or before it and r is 0
+pub record BitIn (a k r : ℕ) : Type 0 where
+  pub behind : k ≤ 8 * a + r
+  pub few : r < 8
+  pub there : 0 < r → 8 * a + r ≡ k
