@@ -1,6 +1,6 @@
 -- The walk over the positions of a stream. Assumes nothing.
-use mathlib.Core.Path.{_≡_, refl, sym, ap, _∙_, subst}
-use mathlib.Core.Bool.{Bool, true, false, _&&_, and-false}
+use mathlib.Core.Path.{_≡_, refl, sym, ap, _∙_}
+use mathlib.Core.Bool.{true, false, and-false}
 use mathlib.Core.List.{List}
 use Prim.Native.Nat.{ℕ, _+_, _-_, _*_, _≤_, _<_}
 use native.Mathlib.Decide.{decLt}
@@ -9,7 +9,6 @@ use borrow.Author.Count.{below-more}
 use borrow.Author.Tests.{le-leb, lt-leb}
 use lib.Dec.{leb}
 use lib.ListN.{length, getD}
-use Rattle.lay.specs.Below.{find}
 use Rattle.lay.proofs.Below.{find-none, find-at}
 use Rattle.lay.proofs.Passing.{passed-none}
 use Rattle.lay.proofs.Tests.{and-both}
@@ -18,7 +17,7 @@ use Rattle.model.specs.Content.{Content}
 use Rattle.model.specs.View.{view}
 use Rattle.carding.specs.Layout.{frameBits}
 use Rattle.carding.specs.Search.{wholeAt, agreesAt, soughtAt, positionFrom}
-use Rattle.card.specs.Sieve.{SieveRows, SieveOf, NextSifted, siftsAt, siftsOne}
+use Rattle.card.specs.Sieve.{SieveRows, SieveOf, NextSifted}
 use Rattle.card.proofs.Sieves.{row-fails, kept-back}
 
 -- ---- positions that the sieve's first row keeps back

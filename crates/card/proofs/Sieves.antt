@@ -1,13 +1,12 @@
 -- The sieve, row by row. Assumes nothing.
 use mathlib.Core.Path.{_≡_, refl, sym, ap, ap₂, _∙_, subst}
-use mathlib.Core.Bool.{Bool, true, false}
+use mathlib.Core.Bool.{true, false}
 use mathlib.Core.List.{List}
 use Prim.Native.Nat.{ℕ, _+_, _*_, _/_, _%_, _^_, _≤_, _<_}
 use native.Mathlib.Nat.{mul-comm}
 use native.Mathlib.Omega.{arith}
 use borrow.Author.Count.{below-more}
 use borrow.Author.Tests.{eq-eqb, ne-eqb, eqb-true}
-use lib.Dec.{eqb}
 use lib.ListN.{length, getD, set}
 use lib.Seq.{getD-set-same, getD-set-other}
 use Rattle.lay.specs.Below.{all}
@@ -18,25 +17,20 @@ use Rattle.bits.proofs.Bits.{stack-low, stack-high}
 use Rattle.sample.specs.declared.component.Component.{Component as Piece}
 use Rattle.sample.specs.Component.{bitsOf}
 use Rattle.sample.specs.Joining.{partOf, join}
-use Rattle.model.specs.Samples.{piece}
-use Rattle.model.specs.Stored.{firstComponentIn, componentCountIn}
-use Rattle.model.specs.View.{componentAt, view}
+use Rattle.model.specs.Samples.{piece, pieces}
+use Rattle.model.specs.Stored.{firstComponentIn, componentCountIn, parametersIn, firstSampleIn, valueIn}
+use Rattle.model.specs.View.{componentAt, view, sampleAt, identifierIn}
 use Rattle.model.specs.Meaning.{ComponentLaw}
-use Rattle.rules.specs.Ruled.{subframesOf, PiecesHere}
+use Rattle.rules.specs.Ruled.{subframesOf, PiecesHere, Ruled}
 use Rattle.rules.proofs.Samplings.{stands, left, left-next}
 use Rattle.card.specs.declared.spans.Run.{Run}
 use Rattle.carding.specs.Layout.{frameAt}
-use Rattle.carding.specs.Search.{agreesAt}
+use Rattle.carding.specs.Search.{agreesAt, readsAt}
 use Rattle.card.specs.Promise.{RunOf}
 use Rattle.lay.proofs.Passing.{Passed}
 use Rattle.lay.proofs.Tests.{refuse, differ}
-use Rattle.model.specs.Samples.{pieces}
-use Rattle.model.specs.Stored.{parametersIn, firstSampleIn, valueIn}
-use Rattle.model.specs.View.{sampleAt, identifierIn}
-use Rattle.rules.specs.Ruled.{Ruled}
 use Rattle.framing.specs.Reading.{rawOf}
 use Rattle.framing.proofs.Listed.{listed-at, first-one, pieces-listed}
-use Rattle.carding.specs.Search.{readsAt}
 use Rattle.carding.proofs.Agreeing.{agrees-all, identifier-reads}
 use Rattle.carding.proofs.Frames.{frame-part}
 use Rattle.card.specs.Sieve.{SieveRows, SieveOf, siftsOne, siftsAt, Shaped, With}

@@ -1,11 +1,11 @@
 -- A frame's spans over the bytes of a table. Assumes nothing.
-use mathlib.Core.Path.{_≡_, refl, sym, ap, ap₂, _∙_, subst}
+use mathlib.Core.Path.{_≡_, refl, ap}
 use mathlib.Core.List.{List}
 use Prim.Native.Nat.{ℕ, _+_, _-_, _*_, _≤_, _<_}
 use native.Mathlib.Numerals.{add-one}
 use native.Mathlib.Omega.{arith}
 use Rattle.lay.proofs.Below.{sum-most}
-use Rattle.model.specs.Content.{Content, Subframe, subframe, subframes}
+use Rattle.model.specs.Content.{Subframe, subframe, subframes}
 use Rattle.model.specs.Frame.{frameWords}
 use Rattle.model.specs.Stored.{subframesIn, bitsIn, wordsIn, leadingIn, trailingIn, homeIn, wordIn, lowIn, highIn}
 use Rattle.model.specs.View.{subframeAt, componentAt, view}

@@ -1,20 +1,19 @@
 -- Comparing passes exactly where every identifier reads its value. Assumes nothing.
-use mathlib.Core.Path.{_≡_, refl, sym, ap, _∙_, subst}
-use mathlib.Core.Bool.{Bool, true, false, cond, _&&_, _||_, not, true≢false}
+use mathlib.Core.Path.{_≡_, refl, sym, ap, _∙_}
+use mathlib.Core.Bool.{Bool, true, false, cond, _&&_, _||_, not}
 use mathlib.Core.List.{List}
 use Prim.Native.Nat.{ℕ, _+_, _-_, _≤_, _<_}
 use native.Mathlib.Omega.{arith}
-use borrow.Author.Tests.{eq-eqb, eqb-true, ltb-true, ltb-false, lt-ltb}
+use borrow.Author.Tests.{eq-eqb, eqb-true, ltb-false}
 use lib.Dec.{eqb, ltb}
-use lib.ListN.{length}
 use Rattle.lay.specs.Below.{all, find}
 use Rattle.lay.proofs.Below.{all-below, all-made, any-made, find-least}
 use Rattle.lay.proofs.Tests.{refuse, differ, same-tests}
-use Rattle.model.specs.Content.{Content, Parameter, parameter, parameters, sample, component, subframes}
+use Rattle.model.specs.Content.{Content, parameter, parameters, subframes}
 use Rattle.model.specs.Identifiers.{lies}
-use Rattle.model.specs.Stored.{subframesIn, parametersIn, valueIn}
-use Rattle.model.specs.View.{identifierIn, parameterAt, view}
-use Rattle.model.proofs.Views.{subframes-view, parameters-view, parameter-view}
+use Rattle.model.specs.Stored.{parametersIn, valueIn}
+use Rattle.model.specs.View.{identifierIn, view}
+use Rattle.model.proofs.Views.{parameters-view, parameter-view}
 use Rattle.rules.specs.Ruled.{Ruled}
 use Rattle.rules.proofs.Identifying.{identifier-at, value-at}
 use Rattle.framing.specs.Reading.{rawOf}

@@ -1,6 +1,6 @@
 -- A card's position: the least of all, and none exactly when there is none. Assumes nothing.
-use mathlib.Core.Path.{_≡_, refl, sym, ap, _∙_}
-use mathlib.Core.Bool.{true, false, _&&_}
+use mathlib.Core.Path.{_≡_}
+use mathlib.Core.Bool.{true, false}
 use mathlib.Core.List.{List}
 use Prim.Native.Nat.{ℕ, _+_, _*_, _≤_, _<_}
 use native.Mathlib.Omega.{arith}
@@ -14,12 +14,17 @@ use Rattle.model.specs.Content.{Content}
 use Rattle.carding.specs.Layout.{frameBits}
 use Rattle.carding.specs.Search.{wholeAt, agreesAt, soughtAt, positionFrom, foundFrom, FirstFrame}
 
+-- "a whole frame fits": its last trailing bit is the stream's
+pub whole-inside : (c : Content) (y : List ℕ) (p : ℕ) → wholeAt c y p ≡ true → p + frameBits c ≤ 8 * length y
+unfolding wholeAt
+whole-inside c y p w = leb-true (p + frameBits c) (8 * length y) w
+
 module _ (c : Content) (y : List ℕ) (from : ℕ) where
   -- a position that is sought is not before the answered one
   pub found-by : (p : ℕ) → from ≤ p → wholeAt c y p ≡ true → agreesAt c y p ≡ true → positionFrom c y from ≤ p
-  unfolding positionFrom wholeAt
+  unfolding positionFrom
   found-by p a w g =
-      let l : p + frameBits c ≤ 8 * length y = leb-true _ _ w in
+      let l = whole-inside c y p w in
       find-least (8 * length y + 1) (soughtAt c y from) p (omega arith) (and-both (le-leb from p a) (and-both w g))
 
   pub found-first : foundFrom c y from ≡ true → FirstFrame c y from (positionFrom c y from)
@@ -36,9 +41,9 @@ module _ (c : Content) (y : List ℕ) (from : ℕ) where
 
   -- "25 exactly when no such position exists"
   pub some-found : (p : ℕ) → from ≤ p → wholeAt c y p ≡ true → agreesAt c y p ≡ true → foundFrom c y from ≡ true
-  unfolding foundFrom wholeAt
+  unfolding foundFrom
   some-found p a w g =
-      let l : p + frameBits c ≤ 8 * length y = leb-true _ _ w in
+      let l = whole-inside c y p w in
       le-leb (positionFrom c y from) (8 * length y) (omega (arith, found-by p a w g))
 
   pub none-found : foundFrom c y from ≡ false → (p : ℕ) → from ≤ p → wholeAt c y p ≡ true → agreesAt c y p ≡ true → ⊥

@@ -1,16 +1,16 @@
 -- There and back: a card written of a frame, with any bits in the margins, before it and behind it, has that frame there. Assumes
 -- nothing.
-use mathlib.Core.Path.{_≡_, refl, sym, ap, ap₂, _∙_, subst}
+use mathlib.Core.Path.{_≡_, sym, ap, _∙_}
 use mathlib.Core.Bool.{true}
 use mathlib.Core.List.{List, _++_}
 use Prim.Native.Nat.{ℕ, _+_, _*_, _^_, _/_, _%_, _≤_, _<_}
-use native.Mathlib.Nat.{add-assoc, mul-comm, zero-add, div-one, mod-eq-of-lt, mul-le-mul-right, add-mul, one-mul}
+use native.Mathlib.Nat.{mul-comm, zero-add, div-one, mod-eq-of-lt, mul-le-mul-right, add-mul, one-mul}
 use native.Mathlib.Omega.{arith}
 use borrow.Author.Tests.{le-leb, eq-eqb}
 use lib.ListN.{length, getD, length-append, List·getD-append}
 use lib.Seq.{getD-append-add, ext-getD}
 use Rattle.bits.specs.Word.{bitAt, field}
-use Rattle.lay.specs.Below.{sum, tab, flat}
+use Rattle.lay.specs.Below.{sum, tab}
 use Rattle.lay.proofs.Below.{sum-same, sum-const, sum-up, length-tab, getD-tab, tab-same, length-flat, getD-flat, flat-same, flat-tab}
 use Rattle.stream.specs.Stream.{streamBit, bitsFrom}
 use Rattle.stream.proofs.Sums.{field-summed}
@@ -18,11 +18,11 @@ use Rattle.sample.specs.Flat.{before}
 use Rattle.model.specs.Content.{Content, subframe, subframes}
 use Rattle.model.specs.Samples.{wordCounts}
 use Rattle.model.specs.Frame.{frameWords, meets}
-use Rattle.model.proofs.Frames.{Meets, meets-law}
+use Rattle.model.proofs.Frames.{meets-law}
 use Rattle.framing.specs.Comparing.{comparedIn, comparedNumber}
 use Rattle.carding.specs.Layout.{subframeBits, bitsBefore, frameBits, wordsBegin, wordBegins, wordIn, frameAt, Carries}
 use Rattle.carding.specs.Writing.{Margins, packed, lowBits, rowBits, subframeStream, frameStream, written}
-use Rattle.carding.specs.Search.{wholeAt, agreesAt, soughtAt, positionFrom}
+use Rattle.carding.specs.Search.{wholeAt, agreesAt, positionFrom}
 use Rattle.carding.proofs.Frames.{before-sum}
 use Rattle.carding.proofs.Answers.{found-by}
 use Rattle.carding.proofs.Packing.{packed-bit, stream-bits, bits-append, bits-low}

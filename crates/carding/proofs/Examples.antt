@@ -1,6 +1,6 @@
 -- Cards by example: the wall's sheet with margins, "12,4,3,1,1.0", and its words 583, 5, 0, 6 behind four bits. Assumes nothing.
 use mathlib.Core.Path.{_≡_, refl}
-use mathlib.Core.Bool.{true, false}
+use mathlib.Core.Bool.{true}
 use mathlib.Core.List.{List, [], _∷_}
 use Prim.Native.Nat.{ℕ}
 use Rattle.bits.specs.Word.{bitAt, field}
@@ -19,7 +19,7 @@ use Rattle.carding.specs.declared.carded.Carded.the-variants.{Found, NoF
 use Rattle.carding.specs.Layout.{subframeBits, bitsBefore, wordsBegin, wordBegins, wordIn, frameAt, begins, sourceAt, rawAt}
 use Rattle.carding.specs.Search.{wholeAt, agreesAt, positionFrom, foundFrom}
 use Rattle.carding.specs.Answer.{searched, cardedIn, handedFor}
-use Rattle.carding.specs.Writing.{Margins, packed, lowBits, rowBits, subframeStream, frameStream, written}
+use Rattle.carding.specs.Writing.{packed, lowBits, rowBits, subframeStream, frameStream, written}
 
 abbrev pub margined : Content
 margined =
@@ -55,6 +55,19 @@ later = refl
 pub few : cardedIn margined stream 0 (1 ∷ 2 ∷ 3 ∷ []) ≡ FewWords
 unfolding cardedIn searched foundFrom positionFrom wholeAt agreesAt comparedNumber comparedIn differsIn differsAt rawOf frameWords join partOf pieces piece wordCounts position before sum frameAt wordIn wordBegins wordsBegin bitsBefore subframeBits bitsFrom streamBit bitAt field
 few = refl
+
+-- eight trailing bits, and a card that ends before them: 25
+abbrev trailed : Content
+trailed =
+    record {
+      sequential = true;
+      subframes = record { bits = 12; words = 4; leading = 0; trailing = 8; numerator = 1; denominator = 1 } ∷ [];
+      parameters = sync ∷ pitch ∷ [];
+    }
+
+pub cut-short : cardedIn trailed (71 ∷ 82 ∷ 0 ∷ 0 ∷ 96 ∷ 0 ∷ []) 0 (1 ∷ 2 ∷ 3 ∷ 4 ∷ []) ≡ NoFrame
+unfolding cardedIn searched foundFrom positionFrom wholeAt agreesAt comparedNumber comparedIn differsIn differsAt rawOf frameWords join partOf pieces piece wordCounts position before sum frameAt wordIn wordBegins wordsBegin bitsBefore subframeBits bitsFrom streamBit bitAt field
+cut-short = refl
 
 -- the stream is what is written of these words behind four zeros, with the margins 2 and 1
 pub written-so : written margined (record { leading = λ i. 2; trailing = λ i. 1 }) (583 ∷ 5 ∷ 0 ∷ 6 ∷ []) 4 0 0 0 ≡ stream

@@ -1,8 +1,8 @@
 -- The frame at a position: its words, that it meets the table, and what its components hold. Assumes nothing.
-use mathlib.Core.Path.{_≡_, refl, sym, ap, ap₂, _∙_, subst}
+use mathlib.Core.Path.{_≡_, refl, sym, ap, ap₂, _∙_}
 use mathlib.Core.Bool.{true}
-use mathlib.Core.List.{List, []}
-use Prim.Native.Nat.{ℕ, zero, suc, _+_, _-_, _*_, _^_, _≤_, _<_}
+use mathlib.Core.List.{List}
+use Prim.Native.Nat.{ℕ, zero, suc, _+_, _-_, _≤_, _<_}
 use native.Mathlib.Nat.{add-assoc}
 use native.Mathlib.Omega.{arith}
 use lib.ListN.{length, getD}
@@ -15,12 +15,11 @@ use Rattle.sample.specs.Flat.{before, position}
 use Rattle.sample.specs.Joining.{partOf}
 use Rattle.sample.specs.Component.{bitsOf}
 use Rattle.sample.proofs.Flats.{before-first, before-next}
-use Rattle.model.specs.Content.{Content, Component, subframe, subframes, noSubframe}
+use Rattle.model.specs.Content.{Content, Component, subframe, subframes}
 use Rattle.model.specs.Samples.{wordCounts, piece}
 use Rattle.model.specs.Frame.{frameWords, meets}
-use Rattle.model.specs.Rules.{home}
 use Rattle.model.specs.Meaning.{ComponentLaw}
-use Rattle.model.proofs.Frames.{Meets, meets-made}
+use Rattle.model.proofs.Frames.{meets-made}
 use Rattle.carding.specs.Layout.{wordBegins, wordIn, frameAt, componentBegins}
 
 -- ---- how many words stand before a subframe

@@ -1,12 +1,12 @@
 -- A sample read straight from the stream is what the frame at that position gives. Assumes nothing.
-use mathlib.Core.Path.{_≡_, refl, sym, ap, _∙_, subst}
+use mathlib.Core.Path.{_≡_, sym, ap, _∙_, subst}
 use mathlib.Core.Logic.{_⊎_, inl, inr}
 use mathlib.Core.List.{List, [], _∷_, _++_}
-use Prim.Native.Nat.{ℕ, zero, suc, _+_, _-_, _≤_, _<_}
+use Prim.Native.Nat.{ℕ, zero, suc, _+_, _-_, _<_}
 use native.Mathlib.Omega.{arith}
 use lib.ListN.{length, getD}
 use Rattle.bits.specs.Word.{bitAt}
-use Rattle.lay.specs.Below.{sum, tab, flat}
+use Rattle.lay.specs.Below.{tab}
 use Rattle.lay.proofs.Below.{sum-same, length-tab, getD-tab, getD-flat}
 use Rattle.stream.specs.Stream.{streamBit}
 use Rattle.stream.proofs.Streams.{from-bit}
@@ -20,7 +20,7 @@ use Rattle.model.specs.Content.{Content, Component, Parameter, Sample, subframe
 use Rattle.model.specs.Samples.{wordCounts, piece, pieces}
 use Rattle.model.specs.Limits.{Limits, base}
 use Rattle.model.specs.Meaning.{ComponentLaw, SampleLaw}
-use Rattle.model.specs.Stored.{parametersIn, sampleCountIn}
+use Rattle.model.specs.Stored.{parametersIn}
 use Rattle.model.specs.View.{view}
 use Rattle.model.proofs.Views.{parameter-view}
 use Rattle.rules.specs.Ruled.{Ruled}

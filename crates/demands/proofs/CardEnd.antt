@@ -1,15 +1,13 @@
 -- From the sheet and the card to the value: of any bench that meets the demands. Assumes nothing.
-use mathlib.Core.Path.{_≡_, refl, sym, ap, subst, _∙_}
-use mathlib.Core.Bool.{true}
+use mathlib.Core.Path.{_≡_, sym, ap, subst, _∙_}
 use mathlib.Core.List.{List}
 use mathlib.Core.Logic.{_↔_}
-use Prim.Native.Nat.{ℕ, _-_, _≤_, _<_}
+use Prim.Native.Nat.{ℕ, _-_, _<_}
 use native.Mathlib.Omega.{arith}
 use lib.ListN.{length, take}
 use Rattle.sample.specs.Component.{Place, Named}
 use Rattle.sample.specs.Joining.{join}
 use Rattle.sample.specs.Source.{bitIn}
-use Rattle.model.specs.Accepts.{accepts}
 use Rattle.model.specs.Content.{Content, parameter}
 use Rattle.model.specs.Frame.{frameWords}
 use Rattle.model.specs.Stored.{parametersIn}
@@ -28,7 +26,7 @@ use Rattle.carding.proofs.Back.{carried}
 use Rattle.carding.proofs.Straight.{straight, straight-bit}
 use Rattle.demands.specs.Calls.{Calls}
 use Rattle.demands.specs.Refusing.{componentsOf, firstBroken, cardRules}
-use Rattle.demands.specs.Demands.{HasSample, answerFor, Fitting, SameAnswers, SameBits, Demands}
+use Rattle.demands.specs.Demands.{HasSample, answerFor, SameAnswers, SameBits, Demands}
 use Rattle.demands.proofs.Cards.{Findable, findable}
 
 -- what a read of sample j of parameter q must answer, by the sheet and the card: its bits joined where they stand in the stream

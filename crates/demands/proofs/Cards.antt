@@ -9,7 +9,7 @@ use borrow.Author.Tests.{le-leb, leb-true, lt-ltb, ltb-true, eqb-true, eq-eqb, n
 use lib.Dec.{eqb, leb, ltb}
 use lib.ListN.{length, take, drop, take-append-drop}
 use lib.Seq.{take-at, drop-at}
-use Rattle.lay.specs.Below.{any, find}
+use Rattle.lay.specs.Below.{find}
 use Rattle.lay.proofs.Puts.{put-front}
 use Rattle.lay.proofs.Tests.{same-tests, differ, rule, not-holds, holds-not}
 use Rattle.model.specs.Accepts.{accepts}
@@ -178,9 +178,10 @@ module _ (t y : List ℕ) (from : ℕ) (w : List ℕ) (h : Findable t y from w) 
   pub handed-alike : {r : Carded} {o : List ℕ} → FrameHanded c y from w r o → (r ≡ cardedOf t y from w) × (o ≡ handedOf t y from w)
   handed-alike {r} {o} f =
       let p : f .position ≡ at = first-is c y from (f .position) (f .first) in
-      let words : take (frameWords c) o ≡ frameAt c y at = sym (carried c _ (f .words)) ∙ ap (frameAt c y) p in
-      (f .is ∙ ap (λ (k : ℕ). Found k (frameWords c)) p ∙ sym found-is,
-      sym (take-append-drop (frameWords c) o) ∙ ap₂ _++_ words (f .beyond) ∙ sym handed-is)
+      let words : take (frameWords c) o ≡ frameAt c y at = sym (carried c _ (f .words)) ∙ ap (frameAt c y) p in (
+        f .is ∙ ap (λ (k : ℕ). Found k (frameWords c)) p ∙ sym found-is,
+        sym (take-append-drop (frameWords c) o) ∙ ap₂ _++_ words (f .beyond) ∙ sym handed-is,
+      )
 
 -- what is found is findable
 pub found-findable : (t y : List ℕ) (from : ℕ) (w : List ℕ) (p n : ℕ) → cardedOf t y from w ≡ Found p n → Findable t y from w

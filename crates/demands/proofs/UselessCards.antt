@@ -3,7 +3,7 @@
 use Prim.Native.Nat.{ℕ, _+_, _-_, _*_, _/_, _%_, _≤_, _<_}
 use native.Mathlib.Omega.{arith}
 use native.Mathlib.Decide.{decLt}
-use mathlib.Core.Bool.{Bool, true, false}
+use mathlib.Core.Bool.{true, false}
 use mathlib.Core.Path.{_≡_, refl, sym, ap, subst, _∙_}
 use mathlib.Core.List.{List, [], _∷_}
 use borrow.Author.Tests.{le-leb}
@@ -32,21 +32,19 @@ use Rattle.model.specs.Write.{write}
 use Rattle.model.proofs.Built.{view-write, write-accepted}
 use Rattle.model.proofs.WallCase.{wall-lawful}
 use Rattle.model.proofs.TwoSubframes.{two, two-lawful}
-use Rattle.table.specs.Answers.{checkOf, checkNumber}
 use Rattle.table.specs.declared.check.Checked.the-variants.{Table}
 use Rattle.framing.specs.Reading.{rawOf}
 use Rattle.framing.specs.Comparing.{differsAt, differsIn, comparedIn, comparedNumber}
 use Rattle.stream.specs.Stream.{streamBit, bitsFrom}
-use Rattle.carding.specs.Layout.{subframeBits, bitsBefore, frameBits, wordsBegin, wordBegins, wordIn, frameAt, Carries}
+use Rattle.carding.specs.Layout.{subframeBits, bitsBefore, frameBits, wordsBegin, wordBegins, wordIn, frameAt}
 use Rattle.carding.specs.Search.{wholeAt, agreesAt, soughtAt, FirstFrame}
 use Rattle.carding.specs.Answer.{cardedNumber}
 use Rattle.carding.specs.declared.carded.Carded.the-variants.{Found, NoFrame}
 use Rattle.carding.proofs.Back.{carried}
 use Rattle.demands.specs.Calls.{Calls}
-use Rattle.demands.specs.Refusing.{firstBroken, cardRules}
+use Rattle.demands.specs.Refusing.{firstBroken}
 use Rattle.demands.specs.Demands.{Demands}
 use Rattle.demands.proofs.CardEnd.{CardAsSaid, card-as-said}
-use Rattle.demands.proofs.Unbroken.{holds-first}
 use Rattle.demands.proofs.Told.{same-checked}
 use Rattle.demands.proofs.Wall.{words}
 

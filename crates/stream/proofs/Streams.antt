@@ -1,21 +1,19 @@
 -- Laws of a stream's bits, for every width. Assumes nothing.
-use mathlib.Core.Path.{_≡_, refl, sym, ap, ap₂, _∙_, subst}
+use mathlib.Core.Path.{_≡_, refl, sym, ap, _∙_}
 use mathlib.Core.List.{List}
 use Prim.Native.Nat.{ℕ, zero, suc, _+_, _-_, _*_, _/_, _%_, _^_, _≤_, _<_}
 use native.Mathlib.Nat.{add-assoc, mul-comm}
 use native.Mathlib.Numerals.{add-one}
 use native.Mathlib.Decide.{decLt}
 use native.Mathlib.Omega.{arith}
-use lib.Dec.{lit<}
 use lib.ListN.{length, getD, take, drop}
 use lib.Seq.{drop-cons}
 use Rattle.bits.specs.Word.{bitAt, field}
 use Rattle.bits.proofs.Bits.{stack-low, stack-high, bit-lt, bit-mod, bit-div}
-use Rattle.lay.specs.Below.{sum}
 use Rattle.lay.specs.Bytes.{number, numAt}
 use Rattle.lay.proofs.Below.{sum-same}
 use Rattle.stream.specs.Stream.{streamBit, bitsFrom, Window}
-use Rattle.stream.proofs.Sums.{summed, field-summed, summed-lt, summed-bit, field-of-summed}
+use Rattle.stream.proofs.Sums.{field-summed, summed-lt, summed-bit, field-of-summed}
 
 pub stream-bit-lt : (y : List ℕ) (k : ℕ) → streamBit y k < 2
 unfolding streamBit

@@ -1,17 +1,11 @@
 -- Four bytes as one number, or three.
-use mathlib.Core.Path.{_≡_, sym, ap, _∙_}
 use denote.Ref.{now}
-use Prim.Native.Nat.{ℕ, _+_, _*_}
+use Prim.Native.Nat.{_+_}
 use native.Mathlib.Omega.{arith}
-use lib.ListN.{getD}
 use borrow.Author.Needs.{needs}
 use Rattle.stream.proofs.Streams.{window-made, window-less, window-three}
 use Rattle.stream.proofs.window_at.Statement.{statement}
 use Rattle.stream.proofs.window_at.Tie as tie
-use Rattle.stream.proofs.window_at.Reads as reads
-use Rattle.stream.proofs.window_at.Lts as lts
-use Rattle.lay.proofs.four_at.Reads as four-at-reads
-use Rattle.stream.proofs.byte_or_zero.Reads as byte-or-zero-reads
 
 add-if1 : tie.Need-add-if1
 add-if1 c = search needs

@@ -6,7 +6,6 @@ use Prim.Native.Nat.{ℕ, _+_, _-_, _*_, _^_, _≤_, _<_}
 use native.Mathlib.Nat.{lt-of-lt-of-le}
 use native.Mathlib.Omega.{arith}
 use lib.Dec.{lit≤}
-use lib.ListN.{length}
 use Rattle.sample.specs.declared.component.Component.{Component as Piece}
 use Rattle.sample.specs.Component.{bitsOf}
 use Rattle.sample.specs.Joining.{partOf, join, width}

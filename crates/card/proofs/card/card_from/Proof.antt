@@ -1,7 +1,6 @@
 -- 18, 27, 38, then the search.
-use mathlib.Core.Path.{_≡_, refl, sym, ap, _∙_}
+use mathlib.Core.Path.{_≡_, sym, _∙_}
 use denote.Ref.{now}
-use native.Mathlib.Omega.{arith}
 use borrow.Author.Tests.{not-true, not-false}
 use Rattle.model.specs.Content.{parameters}
 use Rattle.model.specs.View.{view}
@@ -11,11 +10,6 @@ use Rattle.carding.proofs.CardCases.{refused-18, refused-27, refused-38, answer
 use borrow.Author.Needs.{needs}
 use Rattle.card.proofs.card.card_from.Statement.{statement}
 use Rattle.card.proofs.card.card_from.Tie as tie
-use Rattle.card.proofs.card.card_from.Reads as reads
-use Rattle.card.proofs.card.card_from.Lts as lts
-use Rattle.card.proofs.card.search.Reads as search-reads
-use Rattle.stored.proofs.items.counts_of.Reads as counts-of-reads
-use Rattle.table.proofs.check.is_table.Reads as is-table-reads
 
 is-table-requires : tie.Need-is-table-requires
 is-table-requires c κs = search needs

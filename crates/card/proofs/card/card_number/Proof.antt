@@ -4,8 +4,6 @@ use Rattle.carding.specs.Answer.{cardedNumber}
 use borrow.Author.Needs.{needs}
 use Rattle.card.proofs.card.card_number.Statement.{statement}
 use Rattle.card.proofs.card.card_number.Tie as tie
-use Rattle.card.proofs.card.card_number.Reads as reads
-use Rattle.card.proofs.card.card_number.Lts as lts
 
 enum-told : tie.Need-enum-told
 enum-told c = search needs

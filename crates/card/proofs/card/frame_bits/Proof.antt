@@ -1,16 +1,11 @@
 -- The bits of the table's span.
-use mathlib.Core.Path.{_≡_, sym, _∙_}
-use denote.Ref.{now}
+use mathlib.Core.Path.{sym, _∙_}
 use borrow.Author.Tests.{not-true, not-false}
 use Rattle.table.proofs.Accepting.{accepted-ruled}
 use Rattle.carding.proofs.CardCases.{bits-none, bits-there}
 use borrow.Author.Needs.{needs}
 use Rattle.card.proofs.card.frame_bits.Statement.{statement}
 use Rattle.card.proofs.card.frame_bits.Tie as tie
-use Rattle.card.proofs.card.frame_bits.Reads as reads
-use Rattle.card.proofs.card.frame_bits.Lts as lts
-use Rattle.card.proofs.spans.span_of.Reads as span-of-reads
-use Rattle.table.proofs.check.is_table.Reads as is-table-reads
 
 is-table-requires : tie.Need-is-table-requires
 is-table-requires c κs = search needs

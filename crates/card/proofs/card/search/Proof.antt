@@ -1,18 +1,10 @@
 -- 25, 28, or the frame.
-use mathlib.Core.Path.{_≡_, refl, sym, _∙_}
-use denote.Ref.{now}
 use native.Mathlib.Omega.{arith}
 use Rattle.carding.proofs.CardCases.{refused-25, refused-28, handed-out}
 use Rattle.card.proofs.SpanLaws.{few-words}
 use borrow.Author.Needs.{needs}
 use Rattle.card.proofs.card.search.Statement.{statement}
 use Rattle.card.proofs.card.search.Tie as tie
-use Rattle.card.proofs.card.search.Reads as reads
-use Rattle.card.proofs.card.search.Lts as lts
-use Rattle.card.proofs.hand.hand_out.Reads as hand-out-reads
-use Rattle.card.proofs.search.position_from.Reads as position-from-reads
-use Rattle.card.proofs.spans.span_of.Reads as span-of-reads
-use Rattle.frame.proofs.fit.frame_words.Reads as frame-words-reads
 
 span-of-requires : tie.Need-span-of-requires
 span-of-requires c κs = search needs

@@ -1,9 +1,8 @@
 -- Row by row.
-use mathlib.Core.Path.{_≡_, refl, sym, ap, _∙_, subst}
+use mathlib.Core.Path.{sym, ap, _∙_}
 use denote.Ref.{now}
-use Prim.Native.Nat.{ℕ, _+_, _-_, _*_, _≤_, _<_}
+use Prim.Native.Nat.{_-_, _<_}
 use native.Mathlib.Omega.{arith}
-use lib.ListN.{length}
 use Rattle.lay.specs.Bytes.{put}
 use Rattle.model.specs.Stored.{subframesIn}
 use Rattle.card.proofs.SpanLaws.{narrow-there, words-are}

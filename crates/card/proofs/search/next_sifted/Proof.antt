@@ -1,14 +1,9 @@
 -- A position passed over fails the first row.
-use mathlib.Core.Path.{_≡_}
-use denote.Ref.{now}
 use native.Mathlib.Omega.{arith}
 use Rattle.card.proofs.Searching.{sifted-none, sifted-first}
 use borrow.Author.Needs.{needs}
 use Rattle.card.proofs.search.next_sifted.Statement.{statement}
 use Rattle.card.proofs.search.next_sifted.Tie as tie
-use Rattle.card.proofs.search.next_sifted.Reads as reads
-use Rattle.card.proofs.search.next_sifted.Lts as lts
-use Rattle.stream.proofs.skip.skip_unlike.Reads as skip-unlike-reads
 
 returns : tie.Need-returns
 returns c = sifted-none _ _ _

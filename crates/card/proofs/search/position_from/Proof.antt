@@ -1,18 +1,12 @@
 -- No position before p is the one that is looked for.
-use mathlib.Core.Path.{_≡_, refl, sym, _∙_}
+use mathlib.Core.Path.{refl, sym, _∙_}
 use denote.Ref.{now}
-use Prim.Native.Nat.{_+_, _-_, _*_, _≤_}
+use Prim.Native.Nat.{_+_, _-_, _≤_}
 use native.Mathlib.Omega.{arith}
 use Rattle.model.specs.View.{view}
 use Rattle.card.proofs.Searching.{Walked, walk-starts, walk-more, walk-found, walk-ends, walk-sifted}
-use borrow.Author.Needs.{needs}
 use Rattle.card.proofs.search.position_from.Statement.{statement}
 use Rattle.card.proofs.search.position_from.Tie as tie
-use Rattle.card.proofs.search.position_from.Reads as reads
-use Rattle.card.proofs.search.position_from.Lts as lts
-use Rattle.card.proofs.search.next_sifted.Reads as next-sifted-reads
-use Rattle.card.proofs.sieve.agrees_sifted.Reads as agrees-sifted-reads
-use Rattle.card.proofs.sieve.sieve_of.Reads as sieve-of-reads
 
 abbrev Inv-loop : tie.InvT-loop
 Inv-loop t stream from begins bits ats widths wants count end p₀ p = Walked (view t) stream from bits end p × (p ≤ 4295491584)
@@ -34,9 +28,10 @@ next-sifted-requires c κs =
 loop-holds : tie.Need-loop-holds Inv-loop μ-loop
 loop-holds c =
     let s = c .before .before .before .before .before .before .before .before .before .before in
-    let n = c .next-sifted .ensures in
-    (walk-sifted _ _ _ _ (walk-starts (view (now (s .args .t))) (now (s .args .stream)) (s .args .from) _ _ (s .pre .1 .1 .0 .0) refl) (c .before .before .before .before .before .before .before .sieve-of .ensures) n,
-    omega (arith, s .pre .1 .1 .1, n .near))
+    let n = c .next-sifted .ensures in (
+      walk-sifted _ _ _ _ (walk-starts (view (now (s .args .t))) (now (s .args .stream)) (s .args .from) _ _ (s .pre .1 .1 .0 .0) refl) (c .before .before .before .before .before .before .before .sieve-of .ensures) n,
+      omega (arith, s .pre .1 .1 .1, n .near),
+    )
 
 add-loop : tie.Need-add-loop Inv-loop μ-loop
 add-loop c = record { fits = omega (arith, c .loop .inv .1, c .before .before .before .before .before .before .before .before .before .before .before .pre .1 .1 .0 .1) }
@@ -63,9 +58,10 @@ loop-less c = omega (arith, c .before .before .before .before .before .before .b
 loop-again : tie.Need-loop-again Inv-loop μ-loop
 loop-again c =
     let s = c .before .before .before .before .before .before .before .before .before .before .before .before .before .before .before .before .before .before .before .before .before in
-    let n = c .next-sifted2 .ensures in
-    (walk-sifted _ _ _ _ (walk-more _ _ _ (c .before .before .before .before .before .before .before .before .before .before .loop .inv .0) (sym (c .before .before .before .before .before .agrees-sifted .ensures) ∙ c .before .before .before .before .if1 .left)) (c .before .before .before .before .before .before .before .before .before .before .before .before .before .before .before .before .before .before .sieve-of .ensures) n,
-    omega (arith, s .pre .1 .1 .1 .0, c .before .before .before .before .before .before .before .before .before .loop-test .taken, n .near))
+    let n = c .next-sifted2 .ensures in (
+      walk-sifted _ _ _ _ (walk-more _ _ _ (c .before .before .before .before .before .before .before .before .before .before .loop .inv .0) (sym (c .before .before .before .before .before .agrees-sifted .ensures) ∙ c .before .before .before .before .if1 .left)) (c .before .before .before .before .before .before .before .before .before .before .before .before .before .before .before .before .before .before .sieve-of .ensures) n,
+      omega (arith, s .pre .1 .1 .1 .0, c .before .before .before .before .before .before .before .before .before .loop-test .taken, n .near),
+    )
 
 add-result : tie.Need-add-result Inv-loop μ-loop
 add-result c = record { fits = omega (arith, c .before .before .before .before .before .before .before .before .before .before .before .before .pre .1 .1 .1 .0) }

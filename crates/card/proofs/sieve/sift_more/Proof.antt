@@ -1,10 +1,10 @@
 -- The rest of the identifier's value is what is left of its components.
-use mathlib.Core.Path.{_≡_, refl, sym, ap, _∙_, subst}
+use mathlib.Core.Path.{_≡_, sym, ap, _∙_}
 use denote.Ref.{now}
-use Prim.Native.Nat.{ℕ, _+_, _-_, _/_, _^_, _<_}
+use Prim.Native.Nat.{ℕ, _+_, _-_, _/_}
 use native.Mathlib.Omega.{arith}
 use borrow.Author.Tests.{eq-eqb}
-use Rattle.model.specs.Stored.{firstSampleIn, firstComponentIn, componentCountIn, componentsIn}
+use Rattle.model.specs.Stored.{firstSampleIn, firstComponentIn, componentCountIn}
 use Rattle.framing.proofs.Listed.{listed-at, first-one, here-at, pieces-here}
 use Rattle.card.specs.Sieve.{rowsOf}
 use Rattle.card.proofs.Sieves.{Sifting, law-here, sifting-more, value-joined}

@@ -1,11 +1,8 @@
 use mathlib.Core.Path.{refl}
 use native.Mathlib.Nat.{mul-le-mul}
 use native.Mathlib.Omega.{arith}
-use borrow.Author.Needs.{needs}
 use Rattle.card.proofs.spans.bit_of.Statement.{statement}
 use Rattle.card.proofs.spans.bit_of.Tie as tie
-use Rattle.card.proofs.spans.bit_of.Reads as reads
-use Rattle.card.proofs.spans.bit_of.Lts as lts
 
 -- src/place.rt:39:13
 mul-result : tie.Need-mul-result

@@ -1,13 +1,12 @@
 -- A component stands so far behind the words before it.
 use mathlib.Core.Path.{_≡_, sym, ap, ap₂, _∙_}
 use denote.Ref.{now}
-use Prim.Native.Nat.{ℕ, _+_, _-_, _*_, _<_}
+use Prim.Native.Nat.{ℕ, _+_, _-_, _<_}
 use native.Mathlib.Omega.{arith}
 use Rattle.model.specs.Samples.{piece}
-use Rattle.model.specs.Stored.{subframesIn, bitsIn, homeIn}
-use Rattle.model.specs.View.{componentAt, view}
-use Rattle.carding.specs.Layout.{wordsBegin}
-use Rattle.card.proofs.SpanLaws.{Inside, inside, narrow-there, component-there}
+use Rattle.model.specs.Stored.{subframesIn, homeIn}
+use Rattle.model.specs.View.{componentAt}
+use Rattle.card.proofs.SpanLaws.{inside, narrow-there, component-there}
 use borrow.Author.Needs.{needs}
 use Rattle.card.proofs.spans.run_at.Statement.{statement}
 use Rattle.card.proofs.spans.run_at.Tie as tie

@@ -10,7 +10,7 @@ use borrow.Author.Needs.{needs}
 use lib.ListN.{length, getD, length-set}
 use lib.Seq.{getD-set-same, getD-set-other}
 use Rattle.model.specs.Content.{subframes}
-use Rattle.model.specs.Stored.{subframesIn, bitsIn, wordsIn, leadingIn, trailingIn}
+use Rattle.model.specs.Stored.{subframesIn}
 use Rattle.model.specs.View.{view}
 use Rattle.model.proofs.Views.{subframes-view}
 use Rattle.carding.specs.Layout.{bitsBefore, wordsBegin}

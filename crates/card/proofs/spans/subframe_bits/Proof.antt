@@ -1,11 +1,8 @@
 use mathlib.Core.Path.{refl}
 use native.Mathlib.Nat.{mul-le-mul}
 use native.Mathlib.Omega.{arith}
-use borrow.Author.Needs.{needs}
 use Rattle.card.proofs.spans.subframe_bits.Statement.{statement}
 use Rattle.card.proofs.spans.subframe_bits.Tie as tie
-use Rattle.card.proofs.spans.subframe_bits.Reads as reads
-use Rattle.card.proofs.spans.subframe_bits.Lts as lts
 
 -- src/place.rt:31:15
 mul-result : tie.Need-mul-result

@@ -1,13 +1,9 @@
 -- The number, and beside 0 the position and the words.
 use mathlib.Core.Path.{_∙_}
-use Rattle.ffi.specs.Structs.{cardedOut, refusedOut}
+use Rattle.ffi.specs.Structs.{cardedOut}
 use borrow.Author.Needs.{needs}
 use Rattle.ffi.proofs.cards.carded_out.Statement.{statement}
 use Rattle.ffi.proofs.cards.carded_out.Tie as tie
-use Rattle.ffi.proofs.cards.carded_out.Reads as reads
-use Rattle.ffi.proofs.cards.carded_out.Lts as lts
-use Rattle.bench.proofs.cards.card_number.Reads as card-number-reads
-use Rattle.ffi.proofs.cards.refused.Reads as refused-reads
 
 card-number-requires : tie.Need-card-number-requires
 card-number-requires c κs = search needs

@@ -4,10 +4,6 @@ use Rattle.ffi.specs.Structs.{cardedOut}
 use borrow.Author.Needs.{needs}
 use Rattle.ffi.proofs.cards.orb_card.Statement.{statement}
 use Rattle.ffi.proofs.cards.orb_card.Tie as tie
-use Rattle.ffi.proofs.cards.orb_card.Reads as reads
-use Rattle.ffi.proofs.cards.orb_card.Lts as lts
-use Rattle.bench.proofs.cards.card.Reads as card-reads
-use Rattle.ffi.proofs.cards.carded_out.Reads as carded-out-reads
 
 card-requires : tie.Need-card-requires
 card-requires c κs = search needs

@@ -4,10 +4,6 @@ use Rattle.ffi.specs.Structs.{cardedOut}
 use borrow.Author.Needs.{needs}
 use Rattle.ffi.proofs.cards.orb_card_from.Statement.{statement}
 use Rattle.ffi.proofs.cards.orb_card_from.Tie as tie
-use Rattle.ffi.proofs.cards.orb_card_from.Reads as reads
-use Rattle.ffi.proofs.cards.orb_card_from.Lts as lts
-use Rattle.bench.proofs.cards.card_from.Reads as card-from-reads
-use Rattle.ffi.proofs.cards.carded_out.Reads as carded-out-reads
 
 card-from-requires : tie.Need-card-from-requires
 card-from-requires c κs = search needs

@@ -1,12 +1,9 @@
 -- Each of the eight is asked.
-use mathlib.Core.Path.{_≡_, _∙_}
+use mathlib.Core.Path.{_∙_}
 use Rattle.stream.proofs.Skipping.{like, eight}
 use borrow.Author.Needs.{needs}
 use Rattle.stream.proofs.skip.eight_unlike.Statement.{statement}
 use Rattle.stream.proofs.skip.eight_unlike.Tie as tie
-use Rattle.stream.proofs.skip.eight_unlike.Reads as reads
-use Rattle.stream.proofs.skip.eight_unlike.Lts as lts
-use Rattle.bits.proofs.field_of.Reads as field-of-reads
 
 field-of-requires : tie.Need-field-of-requires
 field-of-requires c κs = search needs

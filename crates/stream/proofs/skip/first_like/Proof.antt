@@ -1,14 +1,11 @@
 -- No bit before j is it.
-use mathlib.Core.Path.{_≡_, subst, _∙_}
+use mathlib.Core.Path.{subst, _∙_}
 use Prim.Native.Nat.{_-_, _≤_}
 use native.Mathlib.Omega.{arith}
 use Rattle.stream.proofs.Skipping.{Since, since-none, since-more, first-like}
 use borrow.Author.Needs.{needs}
 use Rattle.stream.proofs.skip.first_like.Statement.{statement}
 use Rattle.stream.proofs.skip.first_like.Tie as tie
-use Rattle.stream.proofs.skip.first_like.Reads as reads
-use Rattle.stream.proofs.skip.first_like.Lts as lts
-use Rattle.bits.proofs.field_of.Reads as field-of-reads
 
 abbrev Inv-loop : tie.InvT-loop
 Inv-loop v s n want j₀ j = (s ≤ j) × (j ≤ 8) × Since v s n want j

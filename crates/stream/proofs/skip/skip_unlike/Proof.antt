@@ -1,8 +1,8 @@
 -- At no position from k to before byte a are the n bits `want`.
 use mathlib.Core.Logic.{⊎-elim}
-use mathlib.Core.Path.{_≡_, subst}
+use mathlib.Core.Path.{subst}
 use denote.Ref.{now}
-use Prim.Native.Nat.{ℕ, _-_}
+use Prim.Native.Nat.{_-_}
 use native.Mathlib.Omega.{arith}
 use lib.ListN.{length}
 use borrow.Author.Tests.{not-false}
@@ -12,12 +12,6 @@ use Rattle.stream.proofs.Skipping.{Passed, passed-none, passed-eight, p
 use borrow.Author.Needs.{needs}
 use Rattle.stream.proofs.skip.skip_unlike.Statement.{statement}
 use Rattle.stream.proofs.skip.skip_unlike.Tie as tie
-use Rattle.stream.proofs.skip.skip_unlike.Reads as reads
-use Rattle.stream.proofs.skip.skip_unlike.Lts as lts
-use Rattle.lay.proofs.four_at.Reads as four-at-reads
-use Rattle.stream.proofs.skip.bit_in.Reads as bit-in-reads
-use Rattle.stream.proofs.skip.eight_unlike.Reads as eight-unlike-reads
-use Rattle.stream.proofs.skip.first_like.Reads as first-like-reads
 
 abbrev Inv-loop : tie.InvT-loop
 Inv-loop stream k n want a₀ a = Passed stream k n want a
