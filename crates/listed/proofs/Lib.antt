@@ -3,6 +3,7 @@ pub mod Magnitudes
 pub mod LineLaws
 pub mod RowSteps
 pub mod RowLaws
+pub mod CardLaws
 pub mod WordLaws
 pub mod RefusedLaws
 pub mod ReadBack

@@ -5,7 +5,7 @@ use Prim.Native.Nat.{ℕ, _+_, _*_, _≤_, _<_}
 use native.Mathlib.Omega.{arith}
 use native.Mathlib.Numerals.{add-one}
 use mathlib.Core.Bool.{Bool, true, false, cond}
-use native.Mathlib.Nat.{lt-of-lt-of-le}
+use native.Mathlib.Nat.{lt-of-lt-of-le, mul-suc, mul-le-mul-left}
 use lib.IntN.{ℤ, pos}
 use lib.Pow.{pow-mono}
 use mir.Syntax.{w64}
@@ -32,7 +32,7 @@ use Rattle.framing.specs.declared.read.Reading.{Reading}
 use Rattle.framing.specs.declared.read.Reading.the-variants as reading
 use Rattle.framing.specs.declared.want.Wanted.{Wanted}
 use Rattle.listed.specs.Lines.{rowText}
-use Rattle.listed.specs.Listing.{sampleRow, parameterRows}
+use Rattle.listed.specs.Listing.{sampleRow}
 use Rattle.listed.proofs.DecimalLaws.{decimal-short}
 use Rattle.listed.proofs.LineLaws.{Step, then-step, value-short, front-counts}
 
@@ -42,11 +42,11 @@ row-short : (name : List ℕ) (s w r : ℕ) (v : ℤ) → length (rowText name s
 unfolding rowText
 row-short name s w r v = simp length-append (omega (arith, value-short v, decimal-short s, decimal-short w, decimal-short r))
 
--- the first j rows of parameter i are there, and end at at
-pub record Rows (b : List ℕ) (i : ℕ) (f out₀ out : List ℕ) (at j : ℕ) : Type 0 where
+-- the first j rows of parameter i are there, none longer than each, and end at at
+pub record Rows (b : List ℕ) (i : ℕ) (row : ℕ → List ℕ) (each : ℕ) (out₀ out : List ℕ) (at j : ℕ) : Type 0 where
   pub few : j ≤ sampleCountIn b i
-  pub step : Step out₀ 0 (flat j (sampleRow (view b) f i)) at out
-  pub most : at ≤ 150 * j
+  pub step : Step out₀ 0 (flat j row) at out
+  pub most : at ≤ each * j
   pub long : length out ≡ length out₀
 
 -- ---- what a reading holds
@@ -80,7 +80,7 @@ module _ (b : List ℕ) (h : Ruled b) (i : ℕ) (l : i < parametersIn b) where
   pub count-short : sampleCountIn b i ≤ 64
   count-short = let k = h .parameters .each i l .few in omega (arith, k, samples-at b i)
 
-  row-most : (f : List ℕ) (j : ℕ) → length (sampleRow (view b) f i j) ≤ 150
+  pub row-most : (f : List ℕ) (j : ℕ) → length (sampleRow (view b) f i j) ≤ 150
   unfolding sampleRow
   row-most f j = omega (arith, row-short (parameter (view b) i .name) (j + 1) (widthIs (view b) i j) (rawOf (view b) f i j) (valueOf (view b) f i j), ap length name-is, name-short)
 
@@ -124,27 +124,37 @@ module _ (b : List ℕ) (h : Ruled b) (i : ℕ) (l : i < parametersIn b) where
 
   -- ---- row after row
 
-  pub rows-start : (f out : List ℕ) → Rows b i f out out 0 0
-  rows-start f out = record { few = omega arith; step = (refl, sym (put-none out 0)); most = omega arith; long = refl }
+  module _ (row : ℕ → List ℕ) (each : ℕ) where
+    pub rows-start : (out : List ℕ) → Rows b i row each out out 0 0
+    rows-start out = record { few = omega arith; step = (refl, sym (put-none out 0)); most = omega arith; long = refl }
 
-  module _ (f out₀ out : List ℕ) (at j : ℕ) (w : Rows b i f out₀ out at j) (room : 9600 ≤ length out₀) where
-    pub rows-room : j < sampleCountIn b i → at + 150 ≤ length out
-    rows-room m = omega (arith, w .most, w .long, room, count-short, m)
+    module _ (short : (j : ℕ) → length (row j) ≤ each) (out₀ out : List ℕ) (at j : ℕ) (w : Rows b i row each out₀ out at j) (room : each * 64 ≤ length out₀) where
+      one-more : each * (j + 1) ≡ each * j + each
+      one-more = rw (add-one j) (mul-suc each j)
 
-    pub rows-next : (after : List ℕ) (e : ℕ) → j < sampleCountIn b i → Step out at (sampleRow (view b) f i j) e after → Rows b i f out₀ after e (j + 1)
-    rows-next after e m s =
-        let k = row-most f j in
-        record {
-          few = omega (arith, m);
-          step = subst (λ (n : ℕ). Step out₀ 0 (flat n (sampleRow (view b) f i)) e after) (sym (add-one j)) (then-step out₀ out after (flat j (sampleRow (view b) f i)) (sampleRow (view b) f i j) 0 at e (w .step) s (omega (arith, w .most, k, room, count-short, m)));
-          most = omega (arith, s .0, w .most, k);
-          long = ap length (s .1) ∙ (length-put out at (sampleRow (view b) f i j) (omega (arith, w .most, w .long, k, room, count-short, m)) ∙ w .long);
-        }
+      within : j < sampleCountIn b i → each * j + each ≤ length out₀
+      within m =
+          let k : each * (j + 1) ≤ each * 64 = mul-le-mul-left each (omega (arith, count-short, m)) in
+          omega (arith, k, room, one-more)
 
-    pub rows-end : sampleCountIn b i ≤ j → ((at ≡ length (parameterRows (view b) f i)) × (out ≡ put out₀ 0 (parameterRows (view b) f i))) × Counts at out
-    unfolding parameterRows
-    rows-end m =
-        let n : length (parameter (view b) i .samples) ≡ j = omega (arith, count-is, m, w .few) in
-        let s = subst (λ (k : ℕ). Step out₀ 0 (flat k (sampleRow (view b) f i)) at out) (sym n) (w .step) in
-        let r : at ≡ length (parameterRows (view b) f i) = omega (arith, s .0) in
-        ((r, s .1), front-counts out₀ out (parameterRows (view b) f i) at r (s .1) (omega (arith, r, w .most, w .few, room, count-short)))
+      pub rows-room : j < sampleCountIn b i → at + each ≤ length out
+      rows-room m = omega (arith, w .most, w .long, within m)
+
+      pub rows-next : (after : List ℕ) (e : ℕ) → j < sampleCountIn b i → Step out at (row j) e after → Rows b i row each out₀ after e (j + 1)
+      rows-next after e m s =
+          let k = short j in
+          record {
+            few = omega (arith, m);
+            step = subst (λ (n : ℕ). Step out₀ 0 (flat n row) e after) (sym (add-one j)) (then-step out₀ out after (flat j row) (row j) 0 at e (w .step) s (omega (arith, w .most, k, within m)));
+            most = omega (arith, s .0, w .most, k, one-more);
+            long = ap length (s .1) ∙ (length-put out at (row j) (omega (arith, rows-room m, k)) ∙ w .long);
+          }
+
+      -- all of them
+      pub rows-end : sampleCountIn b i ≤ j → ((at ≡ length (flat (length (parameter (view b) i .samples)) row)) × (out ≡ put out₀ 0 (flat (length (parameter (view b) i .samples)) row))) × Counts at out
+      rows-end m =
+          let n : length (parameter (view b) i .samples) ≡ j = omega (arith, count-is, m, w .few) in
+          let s = subst (λ (k : ℕ). Step out₀ 0 (flat k row) at out) (sym n) (w .step) in
+          let r : at ≡ length (flat (length (parameter (view b) i .samples)) row) = omega (arith, s .0) in
+          let k : each * j ≤ each * 64 = mul-le-mul-left each (omega (arith, count-short, w .few)) in
+          ((r, s .1), front-counts out₀ out (flat (length (parameter (view b) i .samples)) row) at r (s .1) (omega (arith, r, w .most, k, room)))

@@ -52,7 +52,7 @@ pub fn fit_number(fit: Fit) -> u32
 }
 
 // The row of sample j of parameter i, both counted from 0, at o.
-fn put_sample(
+pub fn put_sample(
     t: &[u8],
     words: &[u16],
     i: usize,
