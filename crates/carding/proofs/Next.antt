@@ -1,0 +1,105 @@
+-- A frame that was found lies whole in the stream, at or behind the bit where the search began, and has some bits: whoever goes
+-- on behind it comes to an end. Assumes nothing.
+use mathlib.Core.Path.{_≡_, refl, sym, ap}
+use mathlib.Core.Bool.{Bool, true, false, cond}
+use mathlib.Core.List.{List}
+use Prim.Native.Nat.{ℕ, _+_, _*_, _≤_}
+use native.Mathlib.Nat.{mul-le-mul}
+use native.Mathlib.Omega.{arith}
+use borrow.Author.Tests.{leb-true}
+use lib.Dec.{eqb, leb}
+use lib.ListN.{length}
+use Rattle.lay.proofs.Below.{sum-up}
+use Rattle.model.specs.Content.{Content, Subframe, subframe, subframes, parameters}
+use Rattle.model.specs.Frame.{frameWords}
+use Rattle.model.specs.Limits.{base}
+use Rattle.model.specs.Meaning.{SubframeLaw}
+use Rattle.model.specs.View.{view}
+use Rattle.model.specs.Accepts.{accepts}
+use Rattle.model.proofs.Views.{subframes-view, subframe-view}
+use Rattle.rules.specs.Ruled.{Ruled}
+use Rattle.table.proofs.Accepting.{accepted-ruled}
+use Rattle.carding.specs.declared.carded.Carded.{Carded}
+use Rattle.carding.specs.declared.carded.Carded.the-variants.{Found, NoTable, NoParameters, LongStream, NoFrame, FewWords}
+use Rattle.carding.specs.Layout.{subframeBits, bitsBefore, frameBits}
+use Rattle.carding.specs.Search.{wholeAt, positionFrom, foundFrom}
+use Rattle.carding.specs.Answer.{searched, cardedIn, cardedOf, cardedNumber, longest, bitsOfFrame}
+use Rattle.carding.proofs.Answers.{found-first}
+use Rattle.carding.proofs.CardCases.{bits-there}
+
+-- ---- a frame has some bits
+
+subframe-some : (s : Subframe) → SubframeLaw base s → 1 ≤ subframeBits s
+unfolding subframeBits
+subframe-some s h = let k : 1 * 1 ≤ s .words * s .bits = mul-le-mul (h .someWords) (h .someBits) in omega (arith, k)
+
+module _ (b : List ℕ) (r : Ruled b) where
+  first-some : 1 ≤ subframeBits (subframe (view b) 0)
+  first-some = rw (subframe-view b 0 (r .laid .head .some)) (subframe-some _ (r .subframes .each 0 (r .laid .head .some)))
+
+  pub bits-some : 1 ≤ frameBits (view b)
+  unfolding bitsBefore
+  bits-some =
+      let k = sum-up (subframes (view b)) (λ k. subframeBits (subframe (view b) k)) 0 (omega (arith, subframes-view b, r .laid .head .some)) in
+      omega (arith, k, first-some)
+
+-- ---- what an answered frame says
+
+pub record Stands (b y : List ℕ) (from : ℕ) (words : List ℕ) (p n : ℕ) : Type 0 where
+  pub accepted : accepts b ≡ true
+  pub short : length y ≤ longest
+  pub after : from ≤ p
+  pub whole : p + bitsOfFrame b ≤ 8 * length y
+  pub some : 1 ≤ bitsOfFrame b
+  pub counted : n ≡ frameWords (view b)
+  pub room : n ≤ length words
+
+abbrev position-in : Carded → ℕ → ℕ
+position-in (Found p n) k = p
+position-in NoTable k = k
+position-in NoParameters k = k
+position-in LongStream k = k
+position-in NoFrame k = k
+position-in FewWords k = k
+
+abbrev count-in : Carded → ℕ → ℕ
+count-in (Found p n) k = n
+count-in NoTable k = k
+count-in NoParameters k = k
+count-in LongStream k = k
+count-in NoFrame k = k
+count-in FewWords k = k
+
+module _ (b y : List ℕ) (from : ℕ) (words : List ℕ) (p n : ℕ) where
+  abbrev c : Content
+  c = view b
+
+  stands : accepts b ≡ true → length y ≤ longest → foundFrom c y from ≡ true → frameWords c ≤ length words → Found (positionFrom c y from) (frameWords c) ≡ Found p n → Stands b y from words p n
+  unfolding wholeAt
+  stands a s f w e =
+      let q = found-first c y from f in
+      let at : positionFrom c y from ≡ p = ap (λ (r : Carded). position-in r p) e in
+      let count : frameWords c ≡ n = ap (λ (r : Carded). count-in r n) e in
+      let bits = bits-there b a in
+      record {
+        accepted = a;
+        short = s;
+        after = omega (arith, q .after, at);
+        whole = omega (arith, leb-true (positionFrom c y from + frameBits c) (8 * length y) (q .whole), at, bits);
+        some = omega (arith, bits-some b (accepted-ruled b a), bits);
+        counted = sym count;
+        room = omega (arith, w, count);
+      }
+
+  pub found-stands : cardedOf b y from words ≡ Found p n → Stands b y from words p n
+  unfolding cardedOf cardedIn searched cardedNumber
+  found-stands e = go (accepts b) (eqb (parameters c) 0) (leb (length y) longest) (foundFrom c y from) (leb (frameWords c) (length words)) refl refl refl refl e
+    where
+      go : (a z l f w : Bool) → accepts b ≡ a → leb (length y) longest ≡ l → foundFrom c y from ≡ f → leb (frameWords c) (length words) ≡ w
+          → cond a (cond z NoParameters (cond l (cond f (cond w (Found (positionFrom c y from) (frameWords c)) FewWords) NoFrame) LongStream)) NoTable ≡ Found p n → Stands b y from words p n
+      go true false true true true a l f w e = stands a (leb-true _ _ l) f (leb-true _ _ w) e
+      go true false true true false a l f w e = absurd (omega (arith, ap cardedNumber e))
+      go true false true false w₀ a l f w e = absurd (omega (arith, ap cardedNumber e))
+      go true false false f₀ w₀ a l f w e = absurd (omega (arith, ap cardedNumber e))
+      go true true l₀ f₀ w₀ a l f w e = absurd (omega (arith, ap cardedNumber e))
+      go false z₀ l₀ f₀ w₀ a l f w e = absurd (omega (arith, ap cardedNumber e))
