@@ -1,5 +1,5 @@
--- A table that was made lies within the lent bytes, and a frame's words within the lent words. Assumes nothing.
-use mathlib.Core.Path.{_≡_, refl, sym, ap, _∙_}
+-- A frame's words lie within the lent words. Assumes nothing.
+use mathlib.Core.Path.{_≡_, refl, ap}
 use mathlib.Core.Bool.{Bool, true, false, cond, not, _&&_}
 use mathlib.Core.List.{List}
 use Prim.Native.Nat.{ℕ, _*_, _/_, _%_, _≤_}
@@ -10,17 +10,8 @@ use lib.ListN.{length}
 use Rattle.lay.specs.Bytes.{numAt, put}
 use Rattle.lay.proofs.Below.{length-tab}
 use Rattle.lay.proofs.Puts.{length-put}
-use Rattle.maker.specs.declared.make.Made.{Made}
-use Rattle.maker.specs.declared.make.Made.the-variants as made
-use Rattle.maker.proofs.MadeTables.{made-table, left-long}
 use Rattle.listed.specs.Listing.{wordsOf}
-use Rattle.bench.specs.Promises.{Makes}
 use Rattle.bench.specs.Texts.{WordsFill}
-
-pub made-room : (s out after : List ℕ) (n : ℕ) {m : Made} → Makes s out m after → m ≡ made.Length n → n ≤ length after
-made-room s out after n h e =
-    let t = made-table s out n (sym (h .0) ∙ e) in
-    omega (arith, t .fits, ap length (h .1), left-long s out)
 
 pub words-room : (bytes lent after : List ℕ) (n : ℕ) → WordsFill bytes lent n after → n ≡ 0 → length bytes / 2 ≤ length after
 unfolding wordsOf

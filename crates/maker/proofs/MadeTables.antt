@@ -137,3 +137,9 @@ left-long s out = go (judgeOf s)
     go : (r : Ruling) → length (leftOf r out) ≡ length out
     go (Accepted c) = room (write 1 c) (leb (length (write 1 c)) (length out)) refl
     go (Refused q k) = refl
+
+-- so a table that was made lies within them
+pub made-room : (s out after : List ℕ) (n : ℕ) {m : Made} → (m ≡ madeOf (judgeOf s) (length out)) × (after ≡ leftOf (judgeOf s) out) → m ≡ made.Length n → n ≤ length after
+made-room s out after n h e =
+    let t = made-table s out n (sym (h .0) ∙ e) in
+    omega (arith, t .fits, ap length (h .1), left-long s out)

@@ -1,7 +1,7 @@
 -- A table that was made lies within the lent bytes.
 use mathlib.Core.Path.{sym}
 use lib.Seq.{length-take-le}
-use Rattle.listing.proofs.Rooms.{made-room}
+use Rattle.maker.proofs.MadeTables.{made-room}
 use borrow.Author.Needs.{needs}
 use Rattle.listing.proofs.main.Statement.{statement}
 use Rattle.listing.proofs.main.Tie as tie
