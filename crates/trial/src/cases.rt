@@ -1,4 +1,5 @@
 // Case after case.
+use crate::cards::card_case;
 use crate::cursor::Cursor;
 use crate::frames::compare_case;
 use crate::frames::place_case;
@@ -31,6 +32,8 @@ fn case(s: &[u8], c: Cursor, words: &mut [u16], table: &mut [u8]) -> Cursor
         5 => compare_case(s, first, words),
         6 => name_case(s, first),
         7 => mnemonic_case(s, first),
+        8 => card_case(8, s, first, words),
+        10 => card_case(10, s, first, words),
         _ => first.cut_off(),
     }
 }

@@ -62,6 +62,16 @@ pub fn four(kind: u64, number: u32, x: u64, y: u64) {
     write(&out, d);
 }
 
+pub fn five(kind: u64, number: u32, x: u64, y: u64, z: u64) {
+    let mut out = [0u8; 106];
+    let a = put(&mut out, 0, kind, 32);
+    let b = put(&mut out, a, number as u64, 32);
+    let c = put(&mut out, b, x, 32);
+    let d = put(&mut out, c, y, 32);
+    let e = put(&mut out, d, z, 10);
+    write(&out, e);
+}
+
 pub fn reading(number: u32, width: u32, raw: u32, value: i64) {
     let mut out = [0u8; 106];
     let a = put(&mut out, 0, 3, 32);
