@@ -71,6 +71,10 @@ module _ (b y : List ℕ) (from : ℕ) (words : List ℕ) where
       unfolding cardedOf cardedIn
       answered l {r} e q = answers r (rw (h, ne-eqb (parameters (view b)) 0 some, le-leb (length y) longest l) e) q
 
+-- two frames that are found alike
+pub found-same : {p q n m : ℕ} → Found p n ≡ Found q m → (p ≡ q) × (n ≡ m)
+found-same e = ((cc), (cc))
+
 -- ---- how many bits a frame has
 
 pub bits-none : (b : List ℕ) → accepts b ≡ false → 0 ≡ bitsOfFrame b

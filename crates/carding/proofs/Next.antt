@@ -19,13 +19,12 @@ use Rattle.model.specs.Accepts.{accepts}
 use Rattle.model.proofs.Views.{subframes-view, subframe-view}
 use Rattle.rules.specs.Ruled.{Ruled}
 use Rattle.table.proofs.Accepting.{accepted-ruled}
-use Rattle.carding.specs.declared.carded.Carded.{Carded}
 use Rattle.carding.specs.declared.carded.Carded.the-variants.{Found, NoTable, NoParameters, LongStream, NoFrame, FewWords}
 use Rattle.carding.specs.Layout.{subframeBits, bitsBefore, frameBits}
-use Rattle.carding.specs.Search.{wholeAt, positionFrom, foundFrom}
+use Rattle.carding.specs.Search.{positionFrom, foundFrom}
 use Rattle.carding.specs.Answer.{searched, cardedIn, cardedOf, cardedNumber, longest, bitsOfFrame}
-use Rattle.carding.proofs.Answers.{found-first}
-use Rattle.carding.proofs.CardCases.{bits-there}
+use Rattle.carding.proofs.Answers.{whole-inside, found-first}
+use Rattle.carding.proofs.CardCases.{bits-there, found-same}
 
 -- ---- a frame has some bits
 
@@ -54,41 +53,23 @@ pub record Stands (b y : List ℕ) (from : ℕ) (words : List ℕ) (p n : ℕ) :
   pub counted : n ≡ frameWords (view b)
   pub room : n ≤ length words
 
-abbrev position-in : Carded → ℕ → ℕ
-position-in (Found p n) k = p
-position-in NoTable k = k
-position-in NoParameters k = k
-position-in LongStream k = k
-position-in NoFrame k = k
-position-in FewWords k = k
-
-abbrev count-in : Carded → ℕ → ℕ
-count-in (Found p n) k = n
-count-in NoTable k = k
-count-in NoParameters k = k
-count-in LongStream k = k
-count-in NoFrame k = k
-count-in FewWords k = k
-
 module _ (b y : List ℕ) (from : ℕ) (words : List ℕ) (p n : ℕ) where
   abbrev c : Content
   c = view b
 
   stands : accepts b ≡ true → length y ≤ longest → foundFrom c y from ≡ true → frameWords c ≤ length words → Found (positionFrom c y from) (frameWords c) ≡ Found p n → Stands b y from words p n
-  unfolding wholeAt
   stands a s f w e =
       let q = found-first c y from f in
-      let at : positionFrom c y from ≡ p = ap (λ (r : Carded). position-in r p) e in
-      let count : frameWords c ≡ n = ap (λ (r : Carded). count-in r n) e in
+      let same = found-same e in
       let bits = bits-there b a in
       record {
         accepted = a;
         short = s;
-        after = omega (arith, q .after, at);
-        whole = omega (arith, leb-true (positionFrom c y from + frameBits c) (8 * length y) (q .whole), at, bits);
+        after = omega (arith, q .after, same .0);
+        whole = omega (arith, whole-inside c y (positionFrom c y from) (q .whole), same .0, bits);
         some = omega (arith, bits-some b (accepted-ruled b a), bits);
-        counted = sym count;
-        room = omega (arith, w, count);
+        counted = sym (same .1);
+        room = omega (arith, w, same .1);
       }
 
   pub found-stands : cardedOf b y from words ≡ Found p n → Stands b y from words p n

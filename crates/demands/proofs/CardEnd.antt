@@ -23,6 +23,7 @@ use Rattle.carding.specs.Search.{FirstFrame}
 use Rattle.carding.specs.Answer.{cardedNumber}
 use Rattle.carding.specs.declared.carded.Carded.the-variants.{Found}
 use Rattle.carding.proofs.Back.{carried}
+use Rattle.carding.proofs.CardCases.{found-same}
 use Rattle.carding.proofs.Straight.{straight, straight-bit}
 use Rattle.demands.specs.Calls.{Calls}
 use Rattle.demands.specs.Refusing.{componentsOf, firstBroken, cardRules}
@@ -43,9 +44,6 @@ pub record CardAsSaid (B : Calls) (t y : List ℕ) (from : ℕ) (w : List ℕ) (
 pub record SameStreams (c : Content) (y : List ℕ) (p : ℕ) (z : List ℕ) (q : ℕ) : Type 0 where
   pub each : (k j : ℕ) → HasSample c k j → (x : Place) → Named (componentsOf c k j) x → sourceAt c y p x ≡ sourceAt c z q x
 
-positions : {p q k m : ℕ} → Found p k ≡ Found q m → (p ≡ q) × (k ≡ m)
-positions e = ((cc), (cc))
-
 module _ (B : Calls) (D : Demands B) where
   module _ (t y : List ℕ) (from : ℕ) (w : List ℕ) (p n : ℕ) (e : B .cardFrom t y from w ≡ Found p n) where
     unbroken : firstBroken (cardRules t y from w) ≡ 0
@@ -62,12 +60,12 @@ module _ (B : Calls) (D : Demands B) where
     found-first : FirstFrame (view t) y from p
     found-first =
         let f = D .two .found t y from w unbroken in
-        subst (FirstFrame (view t) y from) (positions (sym (f .is) ∙ e) .0) (f .first)
+        subst (FirstFrame (view t) y from) (found-same (sym (f .is) ∙ e) .0) (f .first)
 
     found-carries : Carries (view t) y p handed
     found-carries =
         let f = D .two .found t y from w unbroken in
-        let q = positions (sym (f .is) ∙ e) in
+        let q = found-same (sym (f .is) ∙ e) in
         subst (λ (k : ℕ). Carries (view t) y p (take k (B .handedFrom t y from w))) (q .1)
         (subst (λ (k : ℕ). Carries (view t) y k (take (frameWords (view t)) (B .handedFrom t y from w))) (q .0) (f .words))
 

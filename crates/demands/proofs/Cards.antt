@@ -30,6 +30,7 @@ use Rattle.carding.specs.declared.carded.Carded.{Carded}
 use Rattle.carding.specs.declared.carded.Carded.the-variants.{Found, NoTable, NoParameters, LongStream, NoFrame, FewWords}
 use Rattle.carding.proofs.Answers.{found-first, first-is}
 use Rattle.carding.proofs.Back.{carried}
+use Rattle.carding.proofs.CardCases.{found-same}
 use Rattle.carding.proofs.Frames.{frame-long, frame-meets}
 use Rattle.carding.proofs.Straight.{frame-carries}
 use Rattle.demands.specs.Refusing.{firstBroken, cardRules, hasParameters, notLong, someFrame, enoughWords}
@@ -189,10 +190,7 @@ unfolding cardedNumber
 found-findable t y from w p n e = findable t y from w (sym (card-number t y from w) ∙ ap cardedNumber e)
 
 pub found-counts : (t y : List ℕ) (from : ℕ) (w : List ℕ) (p n : ℕ) → cardedOf t y from w ≡ Found p n → n ≡ frameWords (view t)
-found-counts t y from w p n e = counts (sym e ∙ frame-handed t y from w (found-findable t y from w p n e) .is)
-  where
-    counts : {p q k m : ℕ} → Found p k ≡ Found q m → k ≡ m
-    counts e = cc
+found-counts t y from w p n e = found-same (sym e ∙ frame-handed t y from w (found-findable t y from w p n e) .is) .1
 
 -- ---- a number says which refusal it is
 
