@@ -12,7 +12,7 @@
  *   - what a call writes overlaps nothing else it is lent: the sheet and the table of orb_make, the table and the words
  *     of orb_place, the table, the stream and the words of orb_card and orb_card_from;
  *   - nobody changes what is lent while a call runs;
- *   - the stack has room: 64 kilobytes for orb_make, 8 for each other call (46 and 3 were measured).
+ *   - the stack has room: 64 kilobytes for orb_make, 8 for each other call (46, and 7 for a card, were measured).
  */
 #ifndef ORBELUNDRI_H
 #define ORBELUNDRI_H

@@ -12,7 +12,7 @@ use lib.ListN.{length, getD}
 use Rattle.lay.proofs.Below.{find-none, find-at}
 use Rattle.lay.proofs.Passing.{passed-none}
 use Rattle.lay.proofs.Tests.{and-both}
-use Rattle.stream.specs.Stream.{Skips}
+use Rattle.stream.specs.Promise.{Skips}
 use Rattle.model.specs.Content.{Content}
 use Rattle.model.specs.View.{view}
 use Rattle.carding.specs.Layout.{frameBits}

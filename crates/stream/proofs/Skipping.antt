@@ -8,7 +8,8 @@ use native.Mathlib.Omega.{arith}
 use borrow.Author.Count.{below-more}
 use lib.ListN.{length}
 use Rattle.bits.specs.Word.{field}
-use Rattle.stream.specs.Stream.{bitsFrom, Window, Skips, EightUnlike, FirstLike, BitIn}
+use Rattle.stream.specs.Stream.{bitsFrom}
+use Rattle.stream.specs.Promise.{Window, Skips, EightUnlike, FirstLike, BitIn}
 
 -- ---- the eight lowest bits of a number
 

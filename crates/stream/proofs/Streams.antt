@@ -12,7 +12,8 @@ use Rattle.bits.specs.Word.{bitAt, field}
 use Rattle.bits.proofs.Bits.{stack-low, stack-high, bit-lt, bit-mod, bit-div}
 use Rattle.lay.specs.Bytes.{number, numAt}
 use Rattle.lay.proofs.Below.{sum-same}
-use Rattle.stream.specs.Stream.{streamBit, bitsFrom, Window}
+use Rattle.stream.specs.Stream.{streamBit, bitsFrom}
+use Rattle.stream.specs.Promise.{Window}
 use Rattle.stream.proofs.Sums.{field-summed, summed-lt, summed-bit, field-of-summed}
 
 pub stream-bit-lt : (y : List ℕ) (k : ℕ) → streamBit y k < 2

@@ -4,7 +4,8 @@ pub mod skip;
 ghost use mathlib.Core.Path.{_≡_};
 ghost use Prim.Native.Nat.{_≤_, _<_, _^_};
 ghost use lib.ListN.{getD};
-ghost use Rattle.stream.specs.Stream.{bitsFrom, Window};
+ghost use Rattle.stream.specs.Stream.{bitsFrom};
+ghost use Rattle.stream.specs.Promise.{Window};
 
 // The byte at i, or 0 beyond the end.
 fn byte_or_zero(stream: &[u8], i: usize) -> u64

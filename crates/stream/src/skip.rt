@@ -1,7 +1,7 @@
 // Positions of a stream passed over, eight with each load.
 ghost use Prim.Native.Nat.{_/_, _≤_, _<_};
 ghost use lib.ListN.{length};
-ghost use Rattle.stream.specs.Stream.{Skips, EightUnlike, FirstLike, BitIn};
+ghost use Rattle.stream.specs.Promise.{Skips, EightUnlike, FirstLike, BitIn};
 
 // From none of the eight lowest bits of v on are the n bits `want`. Shifts by what is written here cost less than by a count.
 fn eight_unlike(v: u64, n: u32, want: u64) -> bool

@@ -6,7 +6,7 @@ use Prim.Native.Nat.{_-_}
 use native.Mathlib.Omega.{arith}
 use lib.ListN.{length}
 use borrow.Author.Tests.{not-false}
-use Rattle.stream.specs.Stream.{EightUnlike}
+use Rattle.stream.specs.Promise.{EightUnlike}
 use Rattle.stream.proofs.Streams.{window-made, small-made}
 use Rattle.stream.proofs.Skipping.{Passed, passed-none, passed-eight, passed-last, passed-skips, found-like}
 use borrow.Author.Needs.{needs}
