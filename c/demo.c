@@ -31,6 +31,13 @@ static const char wall[] = "HEADER:\n"
                            "\n";
 static const size_t wall_len = sizeof wall - 1;
 
+/* the same frame with no parameter */
+static const char none[] = "HEADER:\n"
+                           "2.0,A,TypeX,,,001,,,True,,,1,,\n"
+                           "RECORD:\n"
+                           "12,4,,,1.0\n"
+                           "NONE\n";
+
 static unsigned answers;
 static unsigned wrong;
 
@@ -163,6 +170,9 @@ static void carding(uint8_t *table) {
     static uint8_t longer[65537];
     const uint8_t stream[7] = {0xa0, 0x23, 0x29, 0, 0, 0x30, 0x80};
     uint16_t words[5] = {7, 7, 7, 7, 7};
+    uint8_t bare[56];
+    answer(is_made(orb_make(bytes(none), sizeof none - 1, bare, 56), 0, 56), "a table without parameters has 56 bytes");
+    answer(is_carded(orb_card(bare, 56, longer, 65537, words, 5), 27, 0, 0), "it is 27, before 38");
     table[40] = 3;
     table[42] = 1;
     answer(orb_frame_bits(table, 134) == 52, "a frame has 52 bits");

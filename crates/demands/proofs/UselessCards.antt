@@ -1,6 +1,7 @@
 -- Useless versions of reading cards: no bench that has one meets the demands. Each is put as what it would answer for every table,
 -- stream and position, and fails on a card of the wall's words, or one like it. Assumes nothing.
-use Prim.Native.Nat.{ℕ, _+_, _-_, _*_, _/_, _%_, _≤_, _<_}
+use Prim.Native.Nat.{ℕ, _+_, _-_, _*_, _/_, _%_, _^_, _≤_, _<_}
+use native.Mathlib.Nat.{zero-div}
 use native.Mathlib.Omega.{arith}
 use native.Mathlib.Decide.{decLt}
 use mathlib.Core.Bool.{true, false}
@@ -8,7 +9,7 @@ use mathlib.Core.Path.{_≡_, refl, sym, ap, subst, _∙_}
 use mathlib.Core.List.{List, [], _∷_}
 use borrow.Author.Tests.{le-leb}
 use lib.Dec.{leb}
-use lib.ListN.{length, getD, take}
+use lib.ListN.{length, getD, take, List·getD-eq-default}
 use Rattle.bits.specs.Word.{bitAt, field}
 use Rattle.lay.specs.Below.{every, any}
 use Rattle.lay.specs.Bytes.{same}
@@ -41,6 +42,7 @@ use Rattle.carding.specs.Search.{wholeAt, agreesAt, soughtAt, FirstFrame}
 use Rattle.carding.specs.Answer.{cardedNumber}
 use Rattle.carding.specs.declared.carded.Carded.the-variants.{Found, NoFrame}
 use Rattle.carding.proofs.Back.{carried}
+use Rattle.carding.proofs.Straight.{frame-bit}
 use Rattle.demands.specs.Calls.{Calls}
 use Rattle.demands.specs.Refusing.{firstBroken}
 use Rattle.demands.specs.Demands.{Demands}
@@ -77,10 +79,32 @@ shifted-differs : agreesAt wall shifted 0 ≡ false
 unfolding agreesAt comparedNumber comparedIn differsIn differsAt rawOf join partOf pieces piece wordCounts position before sum frameAt wordIn wordBegins wordsBegin bitsBefore subframeBits bitsFrom streamBit bitAt field
 shifted-differs = refl
 
--- the frame one bit further on begins with another word
-later-word : getD (frameAt wall card 1) 0 0 ≡ 2339
-unfolding frameAt wordIn wordBegins wordsBegin bitsBefore subframeBits bitsFrom streamBit bitAt
-later-word = refl
+-- bit 2 of the last word, 6, is the card's last bit that is set
+last-bit : (p : ℕ) → bitAt (getD (frameAt wall card p) (before (wordCounts (wall .subframes)) 1 + 3) 0) 2 ≡ streamBit card (p + wordBegins wall 0 3 + 2)
+last-bit p = frame-bit wall card p 0 3 2 (omega arith) (omega arith) (omega arith)
+
+last-begins : wordBegins wall 0 3 ≡ 36
+unfolding wordBegins wordsBegin bitsBefore
+last-begins = refl
+
+last-set : streamBit card (0 + wordBegins wall 0 3 + 2) ≡ 1
+unfolding streamBit bitAt wordBegins wordsBegin bitsBefore
+last-set = refl
+
+none-behind : (k : ℕ) → 39 ≤ k → streamBit card k ≡ 0
+unfolding streamBit
+none-behind k l = go (decLt k 40)
+  where
+    no-bit : (i : ℕ) → bitAt 0 i ≡ 0
+    no-bit i = unfold bitAt in rw (zero-div (2 ^ i))
+
+    last-byte : (m : ℕ) → 5 ≤ m → Dec (m < 6) → getD card m 0 ≡ 0
+    last-byte m h (yes d) = let z : m ≡ 5 = omega arith in rw z
+    last-byte m h (no d) = List·getD-eq-default card 0 {n = m} (omega arith)
+
+    go : Dec (k < 40) → bitAt (getD card (k / 8) 0) (k % 8) ≡ 0
+    go (yes d) = let z : k ≡ 39 = omega arith in rw z (unfold bitAt in refl)
+    go (no d) = ap (λ (x : ℕ). bitAt x (k % 8)) (last-byte (k / 8) (omega arith) (decLt (k / 8) 6)) ∙ no-bit (k % 8)
 
 first-word : getD (frameAt wall card 0) 0 0 ≡ 583
 unfolding frameAt wordIn wordBegins wordsBegin bitsBefore subframeBits bitsFrom streamBit bitAt
@@ -134,6 +158,12 @@ half-nowhere = refl
 -- the high bit of a byte first
 abbrev highBit : List ℕ → ℕ → ℕ
 highBit y k = bitAt (getD y (k / 8) 0) (7 - k % 8)
+
+-- the words f stand at another position
+pub record Elsewhere (c : Content) (y : List ℕ) (p : ℕ) (f : List ℕ) : Type 0 where
+  pub at : ℕ
+  pub other : at ≡ p → ⊥
+  pub words : f ≡ frameAt c y at
 
 -- what is found, and where
 record CardRead (B : Calls) (c : Content) (y w : List ℕ) : Type 0 where
@@ -231,10 +261,17 @@ module _ (B : Calls) (D : Demands B) where
       let b : highBit card (wall-card .at + wordBegins (view (write 1 wall)) 0 0) ≡ 0 = rw (at-first, view-write wall wall-lawful) refl in
       omega (arith, a, b, e)
 
-  -- the words of another position
+  -- the words of another position, of whatever other
   pub not-another-position : ((t y : List ℕ) (from : ℕ) (w : List ℕ) (p n : ℕ) → B .cardFrom t y from w ≡ Found p n
-      → take n (B .handedFrom t y from w) ≡ frameAt (view t) y (p + 1)) → ⊥
+      → Elsewhere (view t) y p (take n (B .handedFrom t y from w))) → ⊥
   not-another-position u =
       let e = u (write 1 wall) card 0 words (wall-card .at) (wall-card .count) (wall-card .is) in
-      let a : frameAt wall card 0 ≡ frameAt wall card 1 = sym handed-is ∙ e ∙ rw (at-first, view-write wall wall-lawful) refl in
-      omega (arith, first-word, later-word, ap (λ (f : List ℕ). getD f 0 0) a)
+      let q = e .at in
+      let a : frameAt wall card q ≡ frameAt wall card 0 = sym (ap (λ (c : Content). frameAt c card q) (view-write wall wall-lawful)) ∙ sym (e .words) ∙ handed-is in
+      let b : streamBit card (q + wordBegins wall 0 3 + 2) ≡ streamBit card (0 + wordBegins wall 0 3 + 2) =
+      sym (last-bit q) ∙ ap (λ (f : List ℕ). bitAt (getD f (before (wordCounts (wall .subframes)) 1 + 3) 0) 2) a ∙ last-bit 0 in
+      let d : q ≡ 0 → ⊥ = λ z. e .other (z ∙ sym at-first) in
+      omega (arith, b, last-set, last-begins, none-behind (q + wordBegins wall 0 3 + 2) (behind q (wordBegins wall 0 3) last-begins d))
+    where
+      behind : (q k : ℕ) → k ≡ 36 → (q ≡ 0 → ⊥) → 39 ≤ q + k + 2
+      behind q k e d = omega (arith, d)
