@@ -158,7 +158,7 @@ module _ (c : Content) (m : Margins) (f : List ℕ) where
         ∙ getD-append-add (lowBits k front) (frameStream c m f ++ lowBits n back) a 0
         ∙ List·getD-append (frameStream c m f) (lowBits n back) 0 a l
 
-    written-whole : k + frameBits c ≤ 8 * length (written c m f k front n back)
+    pub written-whole : k + frameBits c ≤ 8 * length (written c m f k front n back)
     unfolding written packed
     written-whole =
         let a = length-append (lowBits k front) (frameStream c m f ++ lowBits n back) in

@@ -6,4 +6,5 @@ pub mod CardCases
 pub mod Next
 pub mod Packing
 pub mod Back
+pub mod Returned
 pub mod Examples
