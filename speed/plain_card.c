@@ -80,15 +80,23 @@ static size_t search_each(const uint8_t *stream, size_t length, size_t from, con
     return 8 * length + 1;
 }
 
+/* From one of the eight lowest bits of v on the bits under the mask are `want`. */
+static inline bool one_of_eight(uint64_t v, uint64_t mask, uint64_t want) {
+    return (v & mask) == want || (v >> 1 & mask) == want || (v >> 2 & mask) == want || (v >> 3 & mask) == want ||
+           (v >> 4 & mask) == want || (v >> 5 & mask) == want || (v >> 6 & mask) == want || (v >> 7 & mask) == want;
+}
+
 /* A position from k on before which the n bits are never `want`. */
-static size_t skip_unlike(const uint8_t *stream, size_t length, size_t k, uint32_t n, uint32_t want) {
+static size_t skip_unlike(const uint8_t *stream, size_t length, size_t k, uint32_t n, uint64_t want) {
+    uint64_t mask = ((uint64_t)1 << n) - 1;
     size_t a = k / 8;
     for (; a + 4 <= length; a++) {
-        uint32_t v;
-        memcpy(&v, stream + a, 4);
-        for (uint32_t j = 0; j < 8; j++) {
-            if ((v >> j & ((1u << n) - 1)) == want && 8 * a + j >= k) {
-                return 8 * a + j;
+        uint64_t v = get4(stream + a);
+        if (one_of_eight(v, mask, want)) {
+            for (size_t q = 8 * a < k ? k : 8 * a; q < 8 * a + 8; q++) {
+                if ((v >> (q - 8 * a) & mask) == want) {
+                    return q;
+                }
             }
         }
     }
