@@ -16,7 +16,7 @@ use Rattle.carding.specs.declared.carded.Carded.{Carded}
 use Rattle.carding.specs.declared.carded.Carded.the-variants.{Found, NoTable, NoParameters, LongStream, NoFrame, FewWords}
 use Rattle.carding.specs.Layout.{frameBits, frameAt}
 use Rattle.carding.specs.Search.{positionFrom, foundFrom}
-use Rattle.carding.specs.Answer.{searched, cardedIn, cardedOf, handedFor, handedOf, longest, bitsOfFrame}
+use Rattle.carding.specs.Answer.{searched, cardedIn, cardedOf, handedFor, handedOf, longestStream, bitsOfFrame}
 
 -- ---- the search, by the position it ends at
 
@@ -63,13 +63,13 @@ module _ (b y : List ℕ) (from : ℕ) (words : List ℕ) where
     refused-27 e = answers NoParameters (rw (h, eq-eqb (parameters (view b)) 0 e)) refl
 
     module _ (some : parameters (view b) ≡ 0 → ⊥) where
-      pub refused-38 : longest < length y → Answers LongStream words
+      pub refused-38 : longestStream < length y → Answers LongStream words
       unfolding cardedOf cardedIn handedFor
-      refused-38 l = answers LongStream (rw (h, ne-eqb (parameters (view b)) 0 some, lt-leb (length y) longest l)) refl
+      refused-38 l = answers LongStream (rw (h, ne-eqb (parameters (view b)) 0 some, lt-leb (length y) longestStream l)) refl
 
-      pub answered : length y ≤ longest → {r : Carded} {o : List ℕ} → r ≡ searched (view b) y from words → o ≡ handedFor (view b) y words r → Answers r o
+      pub answered : length y ≤ longestStream → {r : Carded} {o : List ℕ} → r ≡ searched (view b) y from words → o ≡ handedFor (view b) y words r → Answers r o
       unfolding cardedOf cardedIn
-      answered l {r} e q = answers r (rw (h, ne-eqb (parameters (view b)) 0 some, le-leb (length y) longest l) e) q
+      answered l {r} e q = answers r (rw (h, ne-eqb (parameters (view b)) 0 some, le-leb (length y) longestStream l) e) q
 
 -- two frames that are found alike
 pub found-same : {p q n m : ℕ} → Found p n ≡ Found q m → (p ≡ q) × (n ≡ m)

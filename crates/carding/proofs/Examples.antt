@@ -16,7 +16,7 @@ use Rattle.stream.specs.Stream.{streamBit, bitsFrom}
 use Rattle.framing.specs.Reading.{rawOf}
 use Rattle.framing.specs.Comparing.{differsAt, differsIn, comparedIn, comparedNumber}
 use Rattle.carding.specs.declared.carded.Carded.the-variants.{Found, NoFrame, FewWords}
-use Rattle.carding.specs.Layout.{subframeBits, bitsBefore, wordsBegin, wordBegins, wordIn, frameAt, begins, sourceAt, rawAt}
+use Rattle.carding.specs.Layout.{subframeBits, bitsBefore, wordsBegin, wordBegins, wordIn, frameAt, wordStarts, sourceAt, rawAt}
 use Rattle.carding.specs.Search.{wholeAt, agreesAt, positionFrom, foundFrom}
 use Rattle.carding.specs.Answer.{searched, cardedIn, handedFor}
 use Rattle.carding.specs.Writing.{packed, lowBits, rowBits, subframeStream, frameStream, written}
@@ -44,7 +44,7 @@ handed = refl
 
 -- Pitch straight from the stream: raw 53
 pub pitch-straight : rawAt margined stream 4 1 0 ≡ 53
-unfolding rawAt sourceAt begins gather places placesFrom pieces piece wordCounts position before sum wordBegins wordsBegin bitsBefore subframeBits streamBit bitAt
+unfolding rawAt sourceAt wordStarts gather places placesFrom pieces piece wordCounts position before sum wordBegins wordsBegin bitsBefore subframeBits streamBit bitAt
 pitch-straight = refl
 
 -- one bit later there is none: 25; and 28 with three words lent
@@ -57,7 +57,7 @@ unfolding cardedIn searched foundFrom positionFrom wholeAt agreesAt comparedNumb
 few = refl
 
 -- eight trailing bits, and a card that ends before them: 25
-abbrev trailed : Content
+abbrev pub trailed : Content
 trailed =
     record {
       sequential = true;
@@ -65,7 +65,11 @@ trailed =
       parameters = sync ∷ pitch ∷ [];
     }
 
-pub cut-short : cardedIn trailed (71 ∷ 82 ∷ 0 ∷ 0 ∷ 96 ∷ 0 ∷ []) 0 (1 ∷ 2 ∷ 3 ∷ 4 ∷ []) ≡ NoFrame
+-- the words 583, 5, 0, 6 without margins
+abbrev pub bare : List ℕ
+bare = 71 ∷ 82 ∷ 0 ∷ 0 ∷ 96 ∷ 0 ∷ []
+
+pub cut-short : cardedIn trailed bare 0 (1 ∷ 2 ∷ 3 ∷ 4 ∷ []) ≡ NoFrame
 unfolding cardedIn searched foundFrom positionFrom wholeAt agreesAt comparedNumber comparedIn differsIn differsAt rawOf frameWords join partOf pieces piece wordCounts position before sum frameAt wordIn wordBegins wordsBegin bitsBefore subframeBits bitsFrom streamBit bitAt field
 cut-short = refl
 

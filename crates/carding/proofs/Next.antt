@@ -22,7 +22,7 @@ use Rattle.table.proofs.Accepting.{accepted-ruled}
 use Rattle.carding.specs.declared.carded.Carded.the-variants.{Found, NoTable, NoParameters, LongStream, NoFrame, FewWords}
 use Rattle.carding.specs.Layout.{subframeBits, bitsBefore, frameBits}
 use Rattle.carding.specs.Search.{positionFrom, foundFrom}
-use Rattle.carding.specs.Answer.{searched, cardedIn, cardedOf, cardedNumber, longest, bitsOfFrame}
+use Rattle.carding.specs.Answer.{searched, cardedIn, cardedOf, cardedNumber, longestStream, bitsOfFrame}
 use Rattle.carding.proofs.Answers.{whole-inside, found-first}
 use Rattle.carding.proofs.CardCases.{bits-there, found-same}
 
@@ -46,7 +46,7 @@ module _ (b : List ℕ) (r : Ruled b) where
 
 pub record Stands (b y : List ℕ) (from : ℕ) (words : List ℕ) (p n : ℕ) : Type 0 where
   pub accepted : accepts b ≡ true
-  pub short : length y ≤ longest
+  pub short : length y ≤ longestStream
   pub after : from ≤ p
   pub whole : p + bitsOfFrame b ≤ 8 * length y
   pub some : 1 ≤ bitsOfFrame b
@@ -57,7 +57,7 @@ module _ (b y : List ℕ) (from : ℕ) (words : List ℕ) (p n : ℕ) where
   abbrev c : Content
   c = view b
 
-  stands : accepts b ≡ true → length y ≤ longest → foundFrom c y from ≡ true → frameWords c ≤ length words → Found (positionFrom c y from) (frameWords c) ≡ Found p n → Stands b y from words p n
+  stands : accepts b ≡ true → length y ≤ longestStream → foundFrom c y from ≡ true → frameWords c ≤ length words → Found (positionFrom c y from) (frameWords c) ≡ Found p n → Stands b y from words p n
   stands a s f w e =
       let q = found-first c y from f in
       let same = found-same e in
@@ -74,9 +74,9 @@ module _ (b y : List ℕ) (from : ℕ) (words : List ℕ) (p n : ℕ) where
 
   pub found-stands : cardedOf b y from words ≡ Found p n → Stands b y from words p n
   unfolding cardedOf cardedIn searched cardedNumber
-  found-stands e = go (accepts b) (eqb (parameters c) 0) (leb (length y) longest) (foundFrom c y from) (leb (frameWords c) (length words)) refl refl refl refl e
+  found-stands e = go (accepts b) (eqb (parameters c) 0) (leb (length y) longestStream) (foundFrom c y from) (leb (frameWords c) (length words)) refl refl refl refl e
     where
-      go : (a z l f w : Bool) → accepts b ≡ a → leb (length y) longest ≡ l → foundFrom c y from ≡ f → leb (frameWords c) (length words) ≡ w
+      go : (a z l f w : Bool) → accepts b ≡ a → leb (length y) longestStream ≡ l → foundFrom c y from ≡ f → leb (frameWords c) (length words) ≡ w
           → cond a (cond z NoParameters (cond l (cond f (cond w (Found (positionFrom c y from) (frameWords c)) FewWords) NoFrame) LongStream)) NoTable ≡ Found p n → Stands b y from words p n
       go true false true true true a l f w e = stands a (leb-true _ _ l) f (leb-true _ _ w) e
       go true false true true false a l f w e = absurd (omega (arith, ap cardedNumber e))

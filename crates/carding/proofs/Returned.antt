@@ -15,7 +15,7 @@ use Rattle.framing.specs.Comparing.{comparedIn, comparedNumber}
 use Rattle.carding.specs.declared.carded.Carded.the-variants.{Found}
 use Rattle.carding.specs.Layout.{frameAt}
 use Rattle.carding.specs.Search.{positionFrom}
-use Rattle.carding.specs.Answer.{cardedOf, handedOf, longest}
+use Rattle.carding.specs.Answer.{cardedOf, handedOf, longestStream}
 use Rattle.carding.specs.Writing.{Margins, written}
 use Rattle.carding.proofs.CardCases.{handed-out, answered}
 use Rattle.carding.proofs.Back.{there-and-back, written-found, written-whole}
@@ -37,7 +37,7 @@ module _ (b f words : List ℕ) (h : Writable b f words) (m : Margins) (k front 
   abbrev card : List ℕ
   card = written (view b) m f k front n back
 
-  module _ (short : length card ≤ longest) where
+  module _ (short : length card ≤ longestStream) where
     answers : (p : ℕ) → p ≡ positionFrom (view b) card 0 → p ≤ k → AnsweredAt b card words p
     answers p e l =
         let s = handed-out (view b) card 0 words e (omega (arith, written-whole (view b) m f k front n back)) refl (h .room) refl in
@@ -52,7 +52,7 @@ module _ (b f words : List ℕ) (h : Writable b f words) (m : Margins) (k front 
     answered-so = answers (positionFrom (view b) card 0) refl answered-there
 
 -- at the first bit: position 0, and exactly these words in front of what was lent
-module _ (b f words : List ℕ) (h : Writable b f words) (m : Margins) (n back : ℕ) (short : length (written (view b) m f 0 0 n back) ≤ longest) where
+module _ (b f words : List ℕ) (h : Writable b f words) (m : Margins) (n back : ℕ) (short : length (written (view b) m f 0 0 n back) ≤ longestStream) where
   pub answered-first : (Found 0 (frameWords (view b)) ≡ cardedOf b (written (view b) m f 0 0 n back) 0 words) × (put words 0 f ≡ handedOf b (written (view b) m f 0 0 n back) 0 words)
   answered-first =
       let y = written (view b) m f 0 0 n back in

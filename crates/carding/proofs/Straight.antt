@@ -25,7 +25,7 @@ use Rattle.model.specs.View.{view}
 use Rattle.model.proofs.Views.{parameter-view}
 use Rattle.rules.specs.Ruled.{Ruled}
 use Rattle.framing.specs.Reading.{rawOf}
-use Rattle.carding.specs.Layout.{wordBegins, wordIn, frameAt, begins, sourceAt, rawAt, Carries}
+use Rattle.carding.specs.Layout.{wordBegins, wordIn, frameAt, wordStarts, sourceAt, rawAt, Carries}
 use Rattle.carding.proofs.Frames.{before-sum, frame-word, frame-meets}
 
 -- ---- some component of a list names a bit
@@ -54,11 +54,11 @@ tab-named (suc n) g q A h e = go (tab-named n g q A (λ k l. h k (omega arith)))
 
 module _ (c : Content) (y : List ℕ) (p : ℕ) where
   -- where word w of subframe i begins, in the frame's order
-  begins-word : (i w : ℕ) → i < subframes c → w < subframe c i .words → getD (begins c) (before (wordCounts (c .subframes)) (i + 1) + w) 0 ≡ wordBegins c i w
-  unfolding begins
+  begins-word : (i w : ℕ) → i < subframes c → w < subframe c i .words → getD (wordStarts c) (before (wordCounts (c .subframes)) (i + 1) + w) 0 ≡ wordBegins c i w
+  unfolding wordStarts
   begins-word i w l m =
       let long = sum-same i (λ k. length (tab (subframe c k .words) (wordBegins c k))) (λ k. subframe c k .words) (λ k o. length-tab (subframe c k .words) (wordBegins c k)) in
-      ap (λ (n : ℕ). getD (begins c) (n + w) 0) (before-sum c i (omega arith) ∙ sym long)
+      ap (λ (n : ℕ). getD (wordStarts c) (n + w) 0) (before-sum c i (omega arith) ∙ sym long)
       ∙ getD-flat (subframes c) (λ i. tab (subframe c i .words) (wordBegins c i)) 0 i w l (omega (arith, length-tab (subframe c i .words) (wordBegins c i)))
       ∙ getD-tab (subframe c i .words) (wordBegins c i) 0 w m
 
@@ -82,7 +82,7 @@ module _ (c : Content) (y : List ℕ) (p : ℕ) where
       let here : before (wordCounts (c .subframes)) (i + 1) + w ≡ q .word = ap (λ (k : ℕ). before (wordCounts (c .subframes)) k + w) (sym e) ∙ n .0 in
       let l : i < subframes c = omega (arith, r) in
       let m : w < subframe c i .words = omega (arith, r) in
-      ap (λ (k : ℕ). streamBit y (p + getD (begins c) k 0 + q .bit)) (sym here)
+      ap (λ (k : ℕ). streamBit y (p + getD (wordStarts c) k 0 + q .bit)) (sym here)
       ∙ ap (λ (k : ℕ). streamBit y (p + k + q .bit)) (begins-word i w l m)
       ∙ sym (frame-bit i w (q .bit) l m (omega (arith, r, n .1, n .2)))
       ∙ ap (λ (k : ℕ). bitAt (getD (frameAt c y p) k 0) (q .bit)) here

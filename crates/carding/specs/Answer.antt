@@ -15,8 +15,8 @@ use Rattle.carding.specs.Layout.{frameBits, frameAt}
 use Rattle.carding.specs.Search.{positionFrom, foundFrom}
 
 -- "Streams go up to 65,536 bytes"
-abbrev pub longest : ℕ
-longest = 65536
+abbrev pub longestStream : ℕ
+longestStream = 65536
 
 -- 25, "no such position exists"; 28, "a lent word slice too short"
 unfoldable pub searched : Content → List ℕ → ℕ → List ℕ → Carded
@@ -28,7 +28,7 @@ searched c y from words =
 -- 27, "a table without parameters"; 38, "a longer stream"
 unfoldable pub cardedIn : Content → List ℕ → ℕ → List ℕ → Carded
 cardedIn c y from words =
-    cond (eqb (parameters c) 0) NoParameters (cond (leb (length y) longest) (searched c y from words) LongStream)
+    cond (eqb (parameters c) 0) NoParameters (cond (leb (length y) longestStream) (searched c y from words) LongStream)
 
 unfoldable pub cardedOf : List ℕ → List ℕ → ℕ → List ℕ → Carded
 cardedOf b y from words = cond (accepts b) (cardedIn (view b) y from words) NoTable

@@ -48,12 +48,12 @@ pub record Carries (c : Content) (y : List ℕ) (p : ℕ) (f : List ℕ) : Type 
 -- ---- a sample read straight from the stream, no word cut out
 
 -- where each word of a frame begins, in the frame's order
-unfoldable pub begins : Content → List ℕ
-begins c = flat (subframes c) (λ i. tab (subframe c i .words) (wordBegins c i))
+unfoldable pub wordStarts : Content → List ℕ
+wordStarts c = flat (subframes c) (λ i. tab (subframe c i .words) (wordBegins c i))
 
 -- the frame at p as a source of bits
 unfoldable pub sourceAt : Content → List ℕ → ℕ → Source
-sourceAt c y p q = streamBit y (p + getD (begins c) (q .word) 0 + q .bit)
+sourceAt c y p q = streamBit y (p + getD (wordStarts c) (q .word) 0 + q .bit)
 
 -- sample j of parameter i, joined where its bits stand; that the frame at p gives the same is proved (proofs/Straight.antt)
 unfoldable pub rawAt : Content → List ℕ → ℕ → ℕ → ℕ → ℕ

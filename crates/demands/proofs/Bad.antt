@@ -45,6 +45,7 @@ bad =
       handedFrom = ours .handedFrom;
       card = ours .card;
       handed = ours .handed;
+      frameBits = ours .frameBits;
     }
 
 pub bad-refuted : Demands bad → ⊥

@@ -25,12 +25,11 @@ use Rattle.framing.specs.declared.compare.Compared.the-variants as compared
 use Rattle.framing.proofs.CompareCases.{compared-frame}
 use Rattle.carding.specs.Layout.{frameAt, Carries}
 use Rattle.carding.specs.Search.{soughtAt, agreesAt, positionFrom, foundFrom}
-use Rattle.carding.specs.Answer.{longest, searched, cardedIn, cardedOf, handedFor, handedOf, cardedNumber}
+use Rattle.carding.specs.Answer.{longestStream, searched, cardedIn, cardedOf, handedFor, handedOf, cardedNumber}
 use Rattle.carding.specs.declared.carded.Carded.{Carded}
 use Rattle.carding.specs.declared.carded.Carded.the-variants.{Found, NoTable, NoParameters, LongStream, NoFrame, FewWords}
 use Rattle.carding.proofs.Answers.{found-first, first-is}
 use Rattle.carding.proofs.Back.{carried}
-use Rattle.carding.proofs.CardCases.{found-same}
 use Rattle.carding.proofs.Frames.{frame-long, frame-meets}
 use Rattle.carding.proofs.Straight.{frame-carries}
 use Rattle.demands.specs.Refusing.{firstBroken, cardRules, hasParameters, notLong, someFrame, enoughWords}
@@ -95,7 +94,7 @@ card-unchanged t y from w n = go (cardedOf t y from w) n
 pub record Findable (t y : List ℕ) (from : ℕ) (w : List ℕ) : Type 0 where
   pub accepted : accepts t ≡ true
   pub some : eqb (parameters (view t)) 0 ≡ false
-  pub short : leb (length y) longest ≡ true
+  pub short : leb (length y) longestStream ≡ true
   pub found : foundFrom (view t) y from ≡ true
   pub room : leb (frameWords (view t)) (length w) ≡ true
 
@@ -188,9 +187,6 @@ module _ (t y : List ℕ) (from : ℕ) (w : List ℕ) (h : Findable t y from w) 
 pub found-findable : (t y : List ℕ) (from : ℕ) (w : List ℕ) (p n : ℕ) → cardedOf t y from w ≡ Found p n → Findable t y from w
 unfolding cardedNumber
 found-findable t y from w p n e = findable t y from w (sym (card-number t y from w) ∙ ap cardedNumber e)
-
-pub found-counts : (t y : List ℕ) (from : ℕ) (w : List ℕ) (p n : ℕ) → cardedOf t y from w ≡ Found p n → n ≡ frameWords (view t)
-found-counts t y from w p n e = found-same (sym e ∙ frame-handed t y from w (found-findable t y from w p n e) .is) .1
 
 -- ---- a number says which refusal it is
 

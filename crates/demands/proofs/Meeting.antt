@@ -12,6 +12,7 @@ use lib.ListN.{length, take, drop}
 use Rattle.text.specs.declared.refusal.Refusal.{Refusal}
 use Rattle.text.specs.declared.refusal.Refusal.the-variants.{TableTooSmall}
 use Rattle.lay.specs.Bytes.{AreBytes}
+use Rattle.lay.proofs.Tests.{refuse}
 use Rattle.sample.specs.Component.{Place, Named}
 use Rattle.sample.specs.Joining.{join, width}
 use Rattle.sample.specs.Source.{bitIn}
@@ -44,11 +45,13 @@ use Rattle.framing.proofs.Answered.{answered, raw-below}
 use Rattle.framing.proofs.PlaceRead.{placing as placing-done, placed-other as other-kept, placed-read}
 use Rattle.carding.specs.Answer.{cardedNumber}
 use Rattle.carding.specs.declared.carded.Carded.the-variants.{Found}
+use Rattle.carding.proofs.CardCases.{bits-none, bits-there}
+use Rattle.carding.proofs.Next.{found-stands}
 use Rattle.demands.specs.Calls.{Calls, Kept}
-use Rattle.demands.specs.Refusing.{componentsOf, firstBroken, cardRules}
+use Rattle.demands.specs.Refusing.{componentsOf, firstBroken, checkRules, cardRules}
 use Rattle.demands.specs.Demands.{HasSample, meaning, answerFor, Fitting, SheetRefused, One, SheetTaken, NameAnswered, Two, SameAnswers, SameBits, FrameHanded, FrameFits, Three, Demands}
 use Rattle.demands.proofs.Numbers.{check-number, read-number, place-number, compare-number, name-number, mnemonic-number}
-use Rattle.demands.proofs.Cards.{card-number, card-unchanged, findable, frame-handed, front-meets, front-passes, found-findable, found-counts}
+use Rattle.demands.proofs.Cards.{card-number, card-unchanged, findable, frame-handed, front-meets, front-passes, found-findable}
 use Rattle.demands.proofs.Parts.{unnamed-part, name-asked, mnemonic-asked, named-part, first-differing}
 
 -- ---- what a check that passes says
@@ -60,6 +63,11 @@ accepts-of t e = go (accepts t) e
     go : (b : Bool) → cond b checked.Table checked.NotTable ≡ checked.Table → b ≡ true
     go true q = refl
     go false q = let z : _≡_ {A = ℕ} 0 1 = cc in absurd (omega arith)
+
+-- and one that does not
+unaccepted : (t : List ℕ) → (firstBroken (checkRules t) ≡ 0 → ⊥) → accepts t ≡ false
+unfolding firstBroken
+unaccepted t n = sym (refuse (accepts t) (λ h. n (rw h)))
 
 pub check-of : (t : List ℕ) → accepts t ≡ true → checkOf t ≡ checked.Table
 unfolding checkOf
@@ -156,6 +164,7 @@ module _ (B : Calls) (K : Kept B) where
         unknown = λ t m n. unnamed-part t (B .nameBy t m) (askedMnemonic (now t) m) (K .names-by t m) (λ e. n (sym (mnemonic-number (now t) m) ∙ e));
         cards = λ t y from w. ap cardedNumber (K .cards-from t y from w .0) ∙ card-number t y from w;
         card-unchanged = λ t y from w n. K .cards-from t y from w .1 ∙ card-unchanged t y from w (λ e. n (sym (card-number t y from w) ∙ e));
+        no-bits = λ t n. K .counts-bits t ∙ sym (bits-none t (unaccepted t n));
       }
 
   -- ---- samples
@@ -233,6 +242,7 @@ module _ (B : Calls) (K : Kept B) where
         placed = λ t f p s v h l d. record { done = value-done t (h .passes) p s l f (h .fits) v d; back = read-back t (h .passes) p s l f (h .fits) v d; other = kept-outside t (h .passes) p s l f (h .fits) v d };
         found = frame-found;
         first-of-all = λ t y w. record { answer = K .cards t y w .0 ∙ sym (K .cards-from t y 0 w .0); words = K .cards t y w .1 ∙ sym (K .cards-from t y 0 w .1) };
+        frame-bits = λ t h. K .counts-bits t ∙ sym (bits-there t (accepts-of t (sym (K .checks t) ∙ h)));
       }
 
   -- ---- 3
@@ -259,7 +269,7 @@ module _ (B : Calls) (K : Kept B) where
   handed-fits t y from w p n e =
       let q = sym (K .cards-from t y from w .0) ∙ e in
       let h = found-findable t y from w p n q in
-      rw (K .cards-from t y from w .1, found-counts t y from w p n q)
+      rw (K .cards-from t y from w .1, found-stands t y from w p n q .counted)
       (record {
         fitting = record { passes = K .checks t ∙ check-of t (h .accepted); fits = front-meets t y from w h };
         compared = K .compares t _ ∙ front-passes t y from w h;

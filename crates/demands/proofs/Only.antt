@@ -28,8 +28,9 @@ use Rattle.grammar.specs.Says.{Says}
 use Rattle.grammar.proofs.Accepted.{accepted-says}
 use Rattle.maker.specs.Made.{madeOf, leftOf}
 use Rattle.maker.specs.declared.make.Made.the-variants as made
-use Rattle.bench.specs.Promises.{Makes, Names, NamesBy, Cards}
+use Rattle.bench.specs.Promises.{Makes, Names, NamesBy, Cards, FrameBits}
 use Rattle.table.specs.Answers.{NameOf, checkOf, askedNumber, askedMnemonic, askedRefusal, nameAnswered, placeAnswered}
+use Rattle.table.specs.declared.check.Checked.the-variants.{Table}
 use Rattle.table.specs.declared.naming.Asked.{Asked}
 use Rattle.table.specs.declared.naming.Asked.the-variants as asked
 use Rattle.framing.specs.Reading.{readOf, readNumber}
@@ -37,13 +38,13 @@ use Rattle.framing.specs.Placing.{placeOf, placedOf}
 use Rattle.framing.specs.Comparing.{comparedOf}
 use Rattle.framing.specs.declared.read.Reading.the-variants.{Sample}
 use Rattle.demands.specs.Calls.{Calls, Kept}
-use Rattle.demands.specs.Refusing.{componentsOf, firstBroken, readRules, placeRules, nameRules, mnemonicRules, cardRules}
+use Rattle.demands.specs.Refusing.{componentsOf, firstBroken, readRules, placeRules, nameRules, mnemonicRules, checkRules, cardRules}
 use Rattle.demands.specs.Demands.{answerFor, Fitting, EmptyPart, NamePart, ValuePlaced, Demands}
 use Rattle.demands.proofs.Numbers.{read-number, place-number, compare-number, name-number, mnemonic-number}
 use Rattle.demands.proofs.Parts.{name-asked, mnemonic-found, first-differing}
 use Rattle.demands.proofs.Told.{same-reading, same-placing, same-checked, same-compared}
 use Rattle.demands.proofs.Cards.{card-number, findable, handed-alike, same-carded}
-use Rattle.demands.proofs.Unbroken.{Readable, readable, long, place-readable}
+use Rattle.demands.proofs.Unbroken.{Readable, readable, long, place-readable, holds-first}
 use Rattle.demands.proofs.Meeting.{accepts-of, check-of}
 use Rattle.demands.proofs.Ours.{ours, ours-meets}
 
@@ -178,6 +179,18 @@ module _ (B : Calls) (D : Demands B) where
       let b = cards-from t y 0 w in
       (a .answer ∙ b .0, a .words ∙ b .1)
 
+  -- ---- how many bits a frame has
+
+  counts-bits : (t : List ℕ) → FrameBits t (B .frameBits t)
+  counts-bits t = go (decLt 0 (firstBroken (checkRules t)))
+    where
+      go : Dec (0 < firstBroken (checkRules t)) → FrameBits t (B .frameBits t)
+      go (yes h) = D .one .no-bits t (λ e. omega arith) ∙ sym (ours-meets .one .no-bits t (λ e. omega arith))
+      go (no h) =
+          let e = checks t in
+          let a : checkOf t ≡ Table = check-of t (holds-first (accepts t) 0 18 (omega arith) (unfold firstBroken in some _ h) .0) in
+          D .two .frame-bits t (e ∙ a) ∙ sym (ours-meets .two .frame-bits t a)
+
   -- ---- making
 
   module _ (s l : List ℕ) where
@@ -228,4 +241,5 @@ module _ (B : Calls) (D : Demands B) where
         names-by-numbered = λ t m. D .one .mnemonics t m ∙ sym (mnemonic-number t m);
         cards-from = cards-from;
         cards = cards;
+        counts-bits = counts-bits;
       }

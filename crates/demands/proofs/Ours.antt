@@ -11,7 +11,7 @@ use Rattle.table.specs.declared.naming.Asked.{Asked}
 use Rattle.framing.specs.Reading.{readOf}
 use Rattle.framing.specs.Placing.{placeOf, placedOf}
 use Rattle.framing.specs.Comparing.{comparedOf}
-use Rattle.carding.specs.Answer.{cardedOf, handedOf}
+use Rattle.carding.specs.Answer.{cardedOf, handedOf, bitsOfFrame}
 use Rattle.demands.specs.Calls.{Calls, Kept}
 use Rattle.demands.specs.Demands.{Demands}
 use Rattle.demands.proofs.Meeting.{demands-met}
@@ -38,6 +38,7 @@ ours =
       handedFrom = handedOf;
       card = λ t y w. cardedOf t y 0 w;
       handed = λ t y w. handedOf t y 0 w;
+      frameBits = bitsOfFrame;
     }
 
 pub ours-kept : Kept ours
@@ -54,6 +55,7 @@ ours-kept =
       names-by-numbered = λ t m. refl;
       cards-from = λ t y from w. (refl, refl);
       cards = λ t y w. (refl, refl);
+      counts-bits = λ t. refl;
     }
 
 pub ours-meets : Demands ours

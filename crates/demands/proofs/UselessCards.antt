@@ -28,7 +28,7 @@ use Rattle.model.specs.Identifiers.{namedApart, newlyNamed, identifierOk, ident
 use Rattle.model.specs.View.{view}
 use Rattle.model.specs.Lawful.{lawful}
 use Rattle.model.specs.Limits.{base}
-use Rattle.model.specs.Wall.{wall, sync, pitch}
+use Rattle.model.specs.Wall.{wall}
 use Rattle.model.specs.Write.{write}
 use Rattle.model.proofs.Built.{view-write, write-accepted}
 use Rattle.model.proofs.WallCase.{wall-lawful}
@@ -42,6 +42,7 @@ use Rattle.carding.specs.Search.{wholeAt, agreesAt, soughtAt, FirstFrame}
 use Rattle.carding.specs.Answer.{cardedNumber}
 use Rattle.carding.specs.declared.carded.Carded.the-variants.{Found, NoFrame}
 use Rattle.carding.proofs.Back.{carried}
+use Rattle.carding.proofs.Examples.{bare as card, trailed}
 use Rattle.carding.proofs.Straight.{frame-bit}
 use Rattle.demands.specs.Calls.{Calls}
 use Rattle.demands.specs.Refusing.{firstBroken}
@@ -51,9 +52,6 @@ use Rattle.demands.proofs.Told.{same-checked}
 use Rattle.demands.proofs.Wall.{words}
 
 -- ---- the wall's words on a card, at its first bit and behind four zeros; no margins
-
-abbrev card : List ℕ
-card = 71 ∷ 82 ∷ 0 ∷ 0 ∷ 96 ∷ 0 ∷ []
 
 abbrev shifted : List ℕ
 shifted = 112 ∷ 36 ∷ 5 ∷ 0 ∷ 0 ∷ 6 ∷ 0 ∷ []
@@ -111,14 +109,6 @@ unfolding frameAt wordIn wordBegins wordsBegin bitsBefore subframeBits bitsFrom 
 first-word = refl
 
 -- ---- the wall with eight trailing bits, and a card that ends before them
-
-abbrev trailed : Content
-trailed =
-    record {
-      sequential = true;
-      subframes = record { bits = 12; words = 4; leading = 0; trailing = 8; numerator = 1; denominator = 1 } ∷ [];
-      parameters = sync ∷ pitch ∷ [];
-    }
 
 trailed-lawful : lawful base trailed ≡ true
 unfolding every same gcdIn gcd lowest width clash clashAny twice sum before position allSamples firstSample firstComponent wordCounts piece pieces widthOf secondsOk subframeOk componentOk sampleOk byteOk textOk parameterOk namedApart newlyNamed identifierOk identifiedApart identifies taken identifiersOk lawful

@@ -8,7 +8,7 @@ use Rattle.framing.specs.declared.read.Reading.{Reading}
 use Rattle.framing.specs.declared.place.Placed.{Placed}
 use Rattle.framing.specs.declared.compare.Compared.{Compared}
 use Rattle.carding.specs.declared.carded.Carded.{Carded}
-use Rattle.bench.specs.Promises.{Makes, Checks, Reads, Places, Compares, Names, NameNumbered, NamesBy, NameByNumbered, Cards}
+use Rattle.bench.specs.Promises.{Makes, Checks, Reads, Places, Compares, Names, NameNumbered, NamesBy, NameByNumbered, Cards, FrameBits}
 
 pub record Calls : Type 0 where
   -- sheet, lent bytes
@@ -34,6 +34,8 @@ pub record Calls : Type 0 where
   -- from the first bit on
   pub card : List ℕ → List ℕ → List ℕ → Carded
   pub handed : List ℕ → List ℕ → List ℕ → List ℕ
+  -- table
+  pub frameBits : List ℕ → ℕ
 
 -- they keep the promises that the crate bench makes
 pub record Kept (B : Calls) : Type 0 where
@@ -48,3 +50,4 @@ pub record Kept (B : Calls) : Type 0 where
   pub names-by-numbered : (t m : List ℕ) → NameByNumbered t m (B .nameByNumber t m)
   pub cards-from : (t y : List ℕ) (from : ℕ) (w : List ℕ) → Cards t y from w (B .cardFrom t y from w) (B .handedFrom t y from w)
   pub cards : (t y w : List ℕ) → Cards t y 0 w (B .card t y w) (B .handed t y w)
+  pub counts-bits : (t : List ℕ) → FrameBits t (B .frameBits t)

@@ -32,7 +32,7 @@ use Rattle.framing.specs.declared.read.Reading.{Reading}
 use Rattle.framing.specs.declared.read.Reading.the-variants.{Sample}
 use Rattle.framing.specs.declared.place.Placed.the-variants.{Done}
 use Rattle.framing.specs.declared.compare.Compared.the-variants.{Passes, Differs}
-use Rattle.carding.specs.Layout.{Carries}
+use Rattle.carding.specs.Layout.{frameBits, Carries}
 use Rattle.carding.specs.Search.{FirstFrame}
 use Rattle.carding.specs.Answer.{cardedNumber}
 use Rattle.carding.specs.declared.carded.Carded.{Carded}
@@ -114,6 +114,7 @@ pub record One (B : Calls) : Type 0 where
   pub unknown : (t : RefT (List ℕ)) (m : List ℕ) → (firstBroken (mnemonicRules (now t) m) ≡ 0 → ⊥) → EmptyPart t (B .nameBy t m)
   pub cards : (t y : List ℕ) (from : ℕ) (w : List ℕ) → cardedNumber (B .cardFrom t y from w) ≡ firstBroken (cardRules t y from w)
   pub card-unchanged : (t y : List ℕ) (from : ℕ) (w : List ℕ) → (firstBroken (cardRules t y from w) ≡ 0 → ⊥) → B .handedFrom t y from w ≡ w
+  pub no-bits : (t : List ℕ) → (firstBroken (checkRules t) ≡ 0 → ⊥) → B .frameBits t ≡ 0
 
 -- ---- 2. "A sheet is accepted exactly under TP 13140E 2.0 as narrowed by the scope paper, and its table says what the sheet
 -- says. A sample read is the joining of its components, lowest first, with the two's complement sign where the sheet says
@@ -165,6 +166,8 @@ pub record Two (B : Calls) : Type 0 where
   pub found : (t y : List ℕ) (from : ℕ) (w : List ℕ) → firstBroken (cardRules t y from w) ≡ 0
       → FrameHanded (view t) y from w (B .cardFrom t y from w) (B .handedFrom t y from w)
   pub first-of-all : (t y w : List ℕ) → FromTheFirst B t y w
+  -- every subframe's leading bits, words and trailing bits: behind so many the next frame is looked for
+  pub frame-bits : (t : List ℕ) → B .check t ≡ Table → B .frameBits t ≡ frameBits (view t)
 
 -- ---- 3. "Every table made from an accepted sheet passes the table check. For a table that the check accepts, no matter who
 -- made it, and frames that fit it, every listed sample is answered, none refused, its raw value below two to the width; two

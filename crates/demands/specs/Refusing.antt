@@ -15,6 +15,7 @@ use Rattle.model.specs.Accepts.{accepts}
 use Rattle.model.specs.View.{view}
 use Rattle.framing.specs.Comparing.{differsIn}
 use Rattle.carding.specs.Search.{soughtAt}
+use Rattle.carding.specs.Answer.{longestStream}
 
 -- ---- the first rule that is broken gives the number
 
@@ -65,7 +66,7 @@ hasParameters c = leb 1 (parameters c)
 
 -- 38, "Streams go up to 65,536 bytes"
 abbrev pub notLong : List ℕ → Bool
-notLong y = leb (length y) 65536
+notLong y = leb (length y) longestStream
 
 -- 25, "exactly when no such position exists", at or after the bit to begin at
 abbrev pub someFrame : Content → List ℕ → ℕ → Bool
