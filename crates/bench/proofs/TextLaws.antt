@@ -12,16 +12,18 @@ use Rattle.lay.specs.Bytes.{put}
 use Rattle.lay.proofs.Puts.{put-none}
 use Rattle.model.specs.Accepts.{accepts}
 use Rattle.model.specs.Content.{parameters}
+use Rattle.model.specs.Forms.{sheetLimits}
 use Rattle.model.specs.View.{view}
 use Rattle.model.proofs.Views.{parameters-view}
-use Rattle.table.specs.Answers.{numbered, askedNumber, nameAnswered}
-use Rattle.table.specs.declared.naming.Asked.the-variants.{Parameter, NoTable, NoParameter}
+use Rattle.table.specs.Answers.{numberedOf, askedNumber, nameAnswered}
+use Rattle.table.specs.declared.naming.Asked.the-variants.{Parameter, Refused}
 use Rattle.table.proofs.Accepting.{accepted-ruled}
 use Rattle.framing.specs.Reading.{readOf}
 use Rattle.framing.specs.declared.read.Reading.the-variants as reading
-use Rattle.framing.specs.declared.want.Wanted.{Wanted}
+use Rattle.table.specs.declared.reason.Reason.{Reason}
+use Rattle.table.specs.declared.reason.Reason.the-variants.{NoTable, NoParameter}
 use Rattle.listed.specs.Lines.{rowText}
-use Rattle.listed.specs.Listing.{wordsOf}
+use Rattle.listed.specs.Listing.{rowMost, wordsOf}
 use Rattle.listed.proofs.RowLaws.{name-is, name-short}
 use Rattle.bench.specs.Texts.{Fills, rowOf, rowFor, WordsFill}
 
@@ -39,26 +41,26 @@ row-found : (b f : List ℕ) (p s r w : ℕ) (v : ℤ) → readOf b f p s ≡ re
 unfolding rowFor rowOf
 row-found b f p s r w v e = ap (rowOf (nameAnswered b (askedNumber b p)) s) e
 
-row-missing : (b f : List ℕ) (p s : ℕ) (q : Wanted) → readOf b f p s ≡ reading.Refused q → rowFor b f p s ≡ []
+row-missing : (b f : List ℕ) (p s : ℕ) (q : Reason) → readOf b f p s ≡ reading.Refused q → rowFor b f p s ≡ []
 unfolding rowFor rowOf
 row-missing b f p s q e = ap (rowOf (nameAnswered b (askedNumber b p)) s) e
 
-pub row-fills : (b f lent after name : List ℕ) (p s r w n : ℕ) (v : ℤ) → 150 ≤ length lent → readOf b f p s ≡ reading.Sample r w v → name ≡ nameAnswered b (askedNumber b p) → (n ≡ 0 + length (rowText name s w r v)) × (after ≡ put lent 0 (rowText name s w r v)) → Fills (rowFor b f p s) 150 lent n after
+pub row-fills : (b f lent after name : List ℕ) (p s r w n : ℕ) (v : ℤ) → rowMost ≤ length lent → readOf b f p s ≡ reading.Sample r w v → name ≡ nameAnswered b (askedNumber b p) → (n ≡ 0 + length (rowText name s w r v)) × (after ≡ put lent 0 (rowText name s w r v)) → Fills (rowFor b f p s) rowMost lent n after
 row-fills b f lent after name p s r w n v h e m t =
     let row : rowText name s w r v ≡ rowFor b f p s = ap (λ (x : List ℕ). rowText x s w r v) m ∙ sym (row-found b f p s r w v e) in
-    fills-some (rowFor b f p s) lent after 150 n h (omega (arith, t .0, ap length row)) (t .1 ∙ ap (put lent 0) row)
+    fills-some (rowFor b f p s) lent after rowMost n h (omega (arith, t .0, ap length row)) (t .1 ∙ ap (put lent 0) row)
 
-pub row-none : (b f lent : List ℕ) (p s : ℕ) (q : Wanted) → 150 ≤ length lent → readOf b f p s ≡ reading.Refused q → Fills (rowFor b f p s) 150 lent 0 lent
+pub row-none : (b f lent : List ℕ) (p s : ℕ) (q : Reason) → rowMost ≤ length lent → readOf b f p s ≡ reading.Refused q → Fills (rowFor b f p s) rowMost lent 0 lent
 row-none b f lent p s q h e =
     let m = row-missing b f p s q e in
-    fills-some (rowFor b f p s) lent lent 150 0 h (sym (ap length m)) (sym (ap (put lent 0) m ∙ put-none lent 0))
+    fills-some (rowFor b f p s) lent lent rowMost 0 h (sym (ap length m)) (sym (ap (put lent 0) m ∙ put-none lent 0))
 
--- whoever is asked for, the name has at most 64 bytes
-pub answered-short : (b : List ℕ) (p : ℕ) → length (nameAnswered b (askedNumber b p)) ≤ 64
-unfolding askedNumber numbered nameAnswered
+-- whoever is asked for, the name is short
+pub answered-short : (b : List ℕ) (p : ℕ) → length (nameAnswered b (askedNumber b p)) ≤ sheetLimits .text
+unfolding askedNumber numberedOf nameAnswered
 answered-short b p = go (accepts b) refl
   where
-    within : (x y : Bool) → leb 1 p ≡ x → leb p (parameters (view b)) ≡ y → accepts b ≡ true → length (nameAnswered b (cond (x && y) (Parameter (p - 1)) NoParameter)) ≤ 64
+    within : (x y : Bool) → leb 1 p ≡ x → leb p (parameters (view b)) ≡ y → accepts b ≡ true → length (nameAnswered b (cond (x && y) (Parameter (p - 1)) (Refused NoParameter))) ≤ sheetLimits .text
     within true true e g a =
         let l = leb-true 1 p e in
         let u = leb-true p (parameters (view b)) g in
@@ -69,7 +71,7 @@ answered-short b p = go (accepts b) refl
     within true false e g a = omega arith
     within false y e g a = omega arith
 
-    go : (t : Bool) → accepts b ≡ t → length (nameAnswered b (cond t (cond (leb 1 p && leb p (parameters (view b))) (Parameter (p - 1)) NoParameter) NoTable)) ≤ 64
+    go : (t : Bool) → accepts b ≡ t → length (nameAnswered b (cond t (cond (leb 1 p && leb p (parameters (view b))) (Parameter (p - 1)) (Refused NoParameter)) (Refused NoTable))) ≤ sheetLimits .text
     go true a = within (leb 1 p) (leb p (parameters (view b))) refl refl a
     go false a = omega arith
 

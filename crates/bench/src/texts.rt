@@ -3,11 +3,12 @@
 use crate::frames::read;
 use crate::tables::name;
 use framing::read::Reading;
+use listed::listing::ROW;
 use listed::listing::put_heading;
 use listed::listing::put_refused;
 use listed::listing::put_words;
 use listed::rows::put_row;
-ghost use Rattle.listed.specs.Listing.{headingText, refusedText};
+ghost use Rattle.listed.specs.Listing.{headingText, refusedText, rowMost};
 ghost use Rattle.bench.specs.Texts.{Fills, rowFor, WordsFill};
 
 // 28 bytes.
@@ -30,11 +31,11 @@ pub fn refusal(number: u32, line: u32, out: &mut [u8]) -> usize
     put_refused(out, number, line)
 }
 
-// The row of a sample, both counted from 1; 150 bytes are enough. Nothing where the read is refused.
+// The row of a sample, both counted from 1; ROW bytes are enough. Nothing where the read is refused.
 pub fn row(t: &[u8], words: &[u16], parameter: u32, sample: u32, out: &mut [u8]) -> usize
-    ensures { λ r. ⌜ Fills (rowFor (now (t .entry)) (now (words .entry)) parameter sample) 150 (now (out .entry)) r (now (out .exit)) ⌝ }
+    ensures { λ r. ⌜ Fills (rowFor (now (t .entry)) (now (words .entry)) parameter sample) rowMost (now (out .entry)) r (now (out .exit)) ⌝ }
 {
-    if out.len() < 150 {
+    if out.len() < ROW {
         return 0;
     }
     match read(t, words, parameter, sample) {

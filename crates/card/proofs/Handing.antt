@@ -48,10 +48,13 @@ module _ (b y : List ℕ) (p : ℕ) where
 
   module _ {out₀ out : List ℕ} {count at i : ℕ} (v : Handed out₀ out count at i) where
     module _ (l : i < count) where
-      -- the next row has room
-      pub next-room : at + subframe (view b) i .words ≤ length out₀
+      -- the next row is the frame's, and has room
+      pub next-inside : at + subframe (view b) i .words ≤ frameWords (view b)
       unfolding frameWords
-      next-room = omega (arith, v, sum-up (subframes (view b)) (λ k. subframe (view b) k .words) i (omega (arith, v, subframes-view b)))
+      next-inside = omega (arith, v, sum-up (subframes (view b)) (λ k. subframe (view b) k .words) i (omega (arith, v, subframes-view b)))
+
+      pub next-room : at + subframe (view b) i .words ≤ length out₀
+      next-room = omega (arith, v .room, next-inside)
 
       pub handed-more : {after : List ℕ} {n : ℕ} → after ≡ put out at (row (view b) y p i) → n ≡ subframe (view b) i .words → Handed out₀ after count (at + n) (i + 1)
       handed-more {after} {n} e f =

@@ -17,6 +17,7 @@ use Rattle.bits.proofs.Bits.{stack-low, stack-high}
 use Rattle.sample.specs.declared.component.Component.{Component as Piece}
 use Rattle.sample.specs.Component.{bitsOf}
 use Rattle.sample.specs.Joining.{partOf, join}
+use Rattle.model.specs.Forms.{sheetLimits}
 use Rattle.model.specs.Samples.{piece, pieces}
 use Rattle.model.specs.Stored.{firstComponentIn, componentCountIn, parametersIn, firstSampleIn, valueIn}
 use Rattle.model.specs.View.{componentAt, view, sampleAt, identifierIn}
@@ -26,20 +27,20 @@ use Rattle.rules.proofs.Samplings.{stands, left, left-next}
 use Rattle.card.specs.declared.spans.Run.{Run}
 use Rattle.carding.specs.Layout.{frameAt}
 use Rattle.carding.specs.Search.{agreesAt, readsAt}
-use Rattle.card.specs.Promise.{RunOf}
+use Rattle.card.specs.Promise.{mostRunAt, RunOf}
 use Rattle.lay.proofs.Passing.{Passed}
 use Rattle.lay.proofs.Tests.{refuse, differ}
 use Rattle.framing.specs.Reading.{rawOf}
 use Rattle.framing.proofs.Listed.{listed-at, first-one, pieces-listed}
 use Rattle.carding.proofs.Agreeing.{agrees-all, identifier-reads}
 use Rattle.carding.proofs.Frames.{frame-part}
-use Rattle.card.specs.Sieve.{SieveRows, SieveOf, siftsOne, siftsAt, Shaped, With}
+use Rattle.card.specs.Sieve.{mostRows, SieveRows, SieveOf, siftsOne, siftsAt, Shaped, With}
 
 -- no room: the sieve stays
 pub with-none : (s : SieveRows) (at width want : ℕ) → Shaped s → With s at width want s
 with-none s at width want h = record { shaped = h; sifts = λ y p t e. t }
 
-module _ (s : SieveRows) (at width want : ℕ) (h : Shaped s) (near : at ≤ 802752) (few : width ≤ 16) (a : s .count < length (s .ats)) (b : s .count < length (s .widths)) (d : s .count < length (s .wants)) (room : s .count < 64) where
+module _ (s : SieveRows) (at width want : ℕ) (h : Shaped s) (near : at ≤ mostRunAt) (few : width ≤ sheetLimits .bits) (a : s .count < length (s .ats)) (b : s .count < length (s .widths)) (d : s .count < length (s .wants)) (room : s .count < mostRows) where
   abbrev n : ℕ
   n = s .count
 
@@ -64,8 +65,8 @@ module _ (s : SieveRows) (at width want : ℕ) (h : Shaped s) (near : at ≤ 802
       record {
         shaped = record {
           few = omega arith;
-          narrow = below-more _ n (λ e m. subst (λ (x : ℕ). x ≤ 16) (sym (other (s .widths) width e m)) (h .narrow e m)) (subst (λ (x : ℕ). x ≤ 16) (sym (getD-set-same (s .widths) n width 0 b)) few);
-          near = below-more _ n (λ e m. subst (λ (x : ℕ). x ≤ 802752) (sym (other (s .ats) at e m)) (h .near e m)) (subst (λ (x : ℕ). x ≤ 802752) (sym (getD-set-same (s .ats) n at 0 a)) near);
+          narrow = below-more _ n (λ e m. subst (λ (x : ℕ). x ≤ sheetLimits .bits) (sym (other (s .widths) width e m)) (h .narrow e m)) (subst (λ (x : ℕ). x ≤ sheetLimits .bits) (sym (getD-set-same (s .widths) n width 0 b)) few);
+          near = below-more _ n (λ e m. subst (λ (x : ℕ). x ≤ mostRunAt) (sym (other (s .ats) at e m)) (h .near e m)) (subst (λ (x : ℕ). x ≤ mostRunAt) (sym (getD-set-same (s .ats) n at 0 a)) near);
         };
         sifts = λ y p t q. all-more n (siftsOne y p more) (sym (all-same n (siftsOne y p s) (siftsOne y p more) (same-row y p)) ∙ t) (new-row y p q);
       }

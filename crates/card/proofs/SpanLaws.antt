@@ -6,31 +6,32 @@ use native.Mathlib.Numerals.{add-one}
 use native.Mathlib.Omega.{arith}
 use Rattle.lay.proofs.Below.{sum-most}
 use Rattle.model.specs.Content.{Subframe, subframe, subframes}
+use Rattle.model.specs.Forms.{sheetLimits}
 use Rattle.model.specs.Frame.{frameWords}
 use Rattle.model.specs.Stored.{subframesIn, bitsIn, wordsIn, leadingIn, trailingIn, homeIn, wordIn, lowIn, highIn}
 use Rattle.model.specs.View.{subframeAt, componentAt, view}
 use Rattle.model.specs.Meaning.{ComponentLaw}
 use Rattle.model.proofs.Views.{subframes-view, subframe-view}
 use Rattle.rules.specs.Ruled.{subframesOf, SubframesLaw, Ruled}
-use Rattle.rules.proofs.Homes.{home-words, home-bits}
+use Rattle.rules.proofs.Widths.{word-small, high-small}
 use Rattle.carding.specs.Layout.{subframeBits, bitsBefore, wordsBegin, wordBegins, componentBegins}
 
 -- what a subframe's entry says, within its limits
 pub record Narrow (b : List ℕ) (i : ℕ) : Type 0 where
-  pub bits : bitsIn b i ≤ 16
-  pub words : wordsIn b i ≤ 1024
-  pub leading : leadingIn b i ≤ 4095
-  pub trailing : trailingIn b i ≤ 4095
+  pub bits : bitsIn b i ≤ sheetLimits .bits
+  pub words : wordsIn b i ≤ sheetLimits .words
+  pub leading : leadingIn b i ≤ sheetLimits .margin
+  pub trailing : trailingIn b i ≤ sheetLimits .margin
 
 -- what a component's entry says
 pub record Inside (b : List ℕ) (k : ℕ) : Type 0 where
   pub someHome : 1 ≤ homeIn b k
   pub declared : homeIn b k ≤ subframesIn b
   pub someWord : 1 ≤ wordIn b k
-  pub fewWords : wordIn b k ≤ 1024
+  pub fewWords : wordIn b k ≤ sheetLimits .words
   pub someBit : 1 ≤ lowIn b k
   pub rising : lowIn b k ≤ highIn b k
-  pub fewBits : highIn b k ≤ 16
+  pub fewBits : highIn b k ≤ sheetLimits .bits
 
 module _ (b : List ℕ) where
   pub span-first : bitsBefore (view b) 0 ≡ 0
@@ -62,16 +63,21 @@ module _ (b : List ℕ) where
     unfolding subframeAt
     narrow-there r =
         let s = r .each i l in
-        record { bits = s .fewBits; words = s .fewWords; leading = s .leading; trailing = s .trailing }
+        let w = r .within in
+        record {
+          bits = omega (arith, s .fewBits, w .bits);
+          words = omega (arith, s .fewWords, w .words);
+          leading = omega (arith, s .leading, w .margin);
+          trailing = omega (arith, s .trailing, w .margin);
+        }
 
-  -- 32 subframes of at most 1,024 words
-  pub few-words : Ruled b → frameWords (view b) ≤ 32768
+  pub few-words : Ruled b → frameWords (view b) ≤ sheetLimits .words * sheetLimits .subframes
   unfolding frameWords
   few-words r =
       let n = subframes-view b in
-      let m = sum-most 1024 (subframes (view b)) (λ i. subframe (view b) i .words)
+      let m = sum-most (sheetLimits .words) (subframes (view b)) (λ i. subframe (view b) i .words)
       (λ i l. let o : i < subframesIn b = omega (arith, n) in let w = words-are i o in let v = narrow-there i o (r .subframes) in omega (arith, w, v .words)) in
-      omega (arith, m, n, r .laid .head .sized)
+      omega (arith, m, n, r .laid .head .sized .fewSubframes)
 
   module _ (k : ℕ) (r : SubframesLaw b) (c : ComponentLaw (subframesOf b) (componentAt b k)) where
     pub inside : Inside b k
@@ -79,18 +85,14 @@ module _ (b : List ℕ) where
     inside =
         let n = subframes-view b in
         let h : homeIn b k ≤ subframesIn b = omega (arith, c, n) in
-        let o : homeIn b k - 1 < subframesIn b = omega (arith, c) in
-        let s = narrow-there (homeIn b k - 1) o r in
-        let w = home-words b k (c .someHome) h in
-        let v = home-bits b k (c .someHome) h in
         record {
           someHome = c .someHome;
           declared = h;
           someWord = c .someWord;
-          fewWords = omega (arith, c .word, w, s .words);
+          fewWords = word-small b r k c;
           someBit = c .someBit;
           rising = c .rising;
-          fewBits = omega (arith, c .inWord, v, s .bits);
+          fewBits = high-small b r k c;
         }
 
     pub component-there : componentBegins (view b) (componentAt b k) ≡ wordsBegin (view b) (homeIn b k - 1) + (wordIn b k - 1) * bitsIn b (homeIn b k - 1) + (lowIn b k - 1)

@@ -7,9 +7,15 @@ use lib.Dec.{eqb}
 use lib.ListN.{length, getD}
 use Rattle.lay.specs.Below.{all}
 use Rattle.stream.specs.Stream.{bitsFrom}
+use Rattle.model.specs.Forms.{sheetLimits}
 use Rattle.model.specs.View.{view}
 use Rattle.card.specs.declared.sieve.Sieve.{Sieve}
 use Rattle.carding.specs.Search.{agreesAt}
+use Rattle.card.specs.Promise.{mostRunAt}
+
+-- so many rows at most
+abbrev pub mostRows : ℕ
+mostRows = 64
 
 pub record SieveRows : Type 0 where
   pub ats : List ℕ
@@ -32,9 +38,9 @@ siftsAt y p s = all (s .count) (siftsOne y p s)
 
 -- few rows, each of few bits, near the frame's first
 pub record Shaped (s : SieveRows) : Type 0 where
-  pub few : s .count ≤ 64
-  pub narrow : (e : ℕ) → e < s .count → getD (s .widths) e 0 ≤ 16
-  pub near : (e : ℕ) → e < s .count → getD (s .ats) e 0 ≤ 802752
+  pub few : s .count ≤ mostRows
+  pub narrow : (e : ℕ) → e < s .count → getD (s .widths) e 0 ≤ sheetLimits .bits
+  pub near : (e : ℕ) → e < s .count → getD (s .ats) e 0 ≤ mostRunAt
 
 -- r keeps back no more than s and the row do
 pub record With (s : SieveRows) (at width want : ℕ) (r : SieveRows) : Type 0 where

@@ -1,41 +1,50 @@
 // Record identifiers, compared where they stand in a stream.
 ghost use mathlib.Core.Path.{_≡_};
-ghost use Prim.Native.Nat.{_≤_, _<_};
+ghost use Prim.Native.Nat.{_*_, _≤_, _<_};
 ghost use Rattle.sample.specs.Promise.{Joins};
-ghost use Rattle.model.specs.Limits.{base};
+ghost use Rattle.model.specs.Forms.{limitsIn};
 ghost use Rattle.model.specs.Samples.{pieces};
 ghost use Rattle.model.specs.Stored.{parametersIn};
 ghost use Rattle.model.specs.View.{sampleAt, view};
 ghost use Rattle.model.specs.Facts.{SampleHere};
 ghost use Rattle.model.specs.Meaning.{SampleLaw};
-ghost use Rattle.rules.specs.Ruled.{subframesOf, Ruled};
+ghost use Rattle.rules.specs.Ruled.{subframesOf, RuledBy};
 ghost use Rattle.carding.specs.Layout.{frameAt};
+ghost use Rattle.carding.specs.Answer.{longestStream};
 ghost use Rattle.carding.specs.Search.{readsAt, agreesAt};
 ghost use Rattle.card.specs.Promise.{BeginsOf};
 use super::spans::run_at;
+use model::limits::SUBFRAMES;
 use sample::joining::Joined;
-use stored::items::counts_of;
+use stored::items::Opened;
 use stored::items::parameter_at;
 use stored::items::sample_at;
 use stream::bits_at;
 
 // Sample j of all, in the frame at p.
-fn joined_in(t: &[u8], stream: &[u8], p: usize, j: usize, begins: &[usize; 32]) -> Joined
-    requires { ⌜ Ruled (now t) ⌝ }
+fn joined_in(
+    t: &[u8],
+    o: Opened,
+    stream: &[u8],
+    p: usize,
+    j: usize,
+    begins: &[usize; SUBFRAMES],
+) -> Joined
+    requires { ⌜ RuledBy (now t) o ⌝ }
     requires { ⌜ BeginsOf (now t) (now begins) ⌝ }
     requires { ⌜ SampleHere (now t) j ⌝ }
-    requires { ⌜ SampleLaw base (subframesOf (now t)) (sampleAt (now t) j) ⌝ }
-    requires { ⌜ p ≤ 524288 ⌝ }
+    requires { ⌜ SampleLaw (limitsIn (now t)) (subframesOf (now t)) (sampleAt (now t) j) ⌝ }
+    requires { ⌜ p ≤ 8 * longestStream ⌝ }
     ensures { λ r. ⌜ Joins (frameAt (view (now (t .entry))) (now (stream .entry)) p) (pieces (subframesOf (now (t .entry))) (sampleAt (now (t .entry)) j)) r ⌝ }
 {
-    let s = sample_at(t, j);
+    let s = sample_at(t, o, j);
     let first = s.first;
     let count = s.count;
     let mut raw: u64 = 0;
     let mut width: u32 = 0;
     let mut k = 0;
     while k < count {
-        let c = run_at(t, first + k, begins);
+        let c = run_at(t, o, first + k, begins);
         raw += bits_at(stream, p + c.at, c.bits) * bits::power_of_two(width);
         width += c.bits;
         k += 1;
@@ -44,33 +53,39 @@ fn joined_in(t: &[u8], stream: &[u8], p: usize, j: usize, begins: &[usize; 32]) 
 }
 
 // Parameter i, if it is an identifier, reads its value in the frame at p.
-fn reads_at(t: &[u8], stream: &[u8], p: usize, i: usize, begins: &[usize; 32]) -> bool
-    requires { ⌜ Ruled (now t) ⌝ }
+fn reads_at(
+    t: &[u8],
+    o: Opened,
+    stream: &[u8],
+    p: usize,
+    i: usize,
+    begins: &[usize; SUBFRAMES],
+) -> bool
+    requires { ⌜ RuledBy (now t) o ⌝ }
     requires { ⌜ BeginsOf (now t) (now begins) ⌝ }
     requires { ⌜ i < parametersIn (now t) ⌝ }
-    requires { ⌜ p ≤ 524288 ⌝ }
+    requires { ⌜ p ≤ 8 * longestStream ⌝ }
     ensures { λ r. ⌜ r ≡ readsAt (view (now (t .entry))) (frameAt (view (now (t .entry))) (now (stream .entry)) p) i ⌝ }
 {
-    let e = parameter_at(t, i);
+    let e = parameter_at(t, o, i);
     if e.flags / 2 != 1 {
         return true;
     }
-    let s = joined_in(t, stream, p, e.first, begins);
+    let s = joined_in(t, o, stream, p, e.first, begins);
     s.raw == e.value as u64
 }
 
 // Every identifier agrees in the frame at p.
-pub fn agrees(t: &[u8], stream: &[u8], p: usize, begins: &[usize; 32]) -> bool
-    requires { ⌜ Ruled (now t) ⌝ }
+pub fn agrees(t: &[u8], o: Opened, stream: &[u8], p: usize, begins: &[usize; SUBFRAMES]) -> bool
+    requires { ⌜ RuledBy (now t) o ⌝ }
     requires { ⌜ BeginsOf (now t) (now begins) ⌝ }
-    requires { ⌜ p ≤ 524288 ⌝ }
+    requires { ⌜ p ≤ 8 * longestStream ⌝ }
     ensures { λ r. ⌜ r ≡ agreesAt (view (now (t .entry))) (now (stream .entry)) p ⌝ }
 {
-    let n = counts_of(t);
-    let parameters = n.parameters;
+    let parameters = o.counts.parameters;
     let mut i = 0;
     while i < parameters {
-        if !reads_at(t, stream, p, i, begins) {
+        if !reads_at(t, o, stream, p, i, begins) {
             return false;
         }
         i += 1;

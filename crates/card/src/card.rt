@@ -4,33 +4,39 @@ ghost use mathlib.Core.Path.{_≡_};
 ghost use Prim.Native.Nat.{_≤_, _<_};
 ghost use lib.ListN.{length};
 ghost use Rattle.model.specs.View.{view};
-ghost use Rattle.rules.specs.Ruled.{Ruled};
-ghost use Rattle.carding.specs.Answer.{searched, handedFor, cardedOf, handedOf, cardedNumber, bitsOfFrame};
+ghost use Rattle.rules.specs.Ruled.{RuledBy};
+ghost use Rattle.carding.specs.Answer.{longestStream, searched, handedFor, cardedOf, handedOf, cardedNumber, bitsOfFrame};
 use super::hand::hand_out;
 use super::search::position_from;
 use super::spans::span_of;
 use carding::carded::Carded;
-use frame::fit::frame_words;
-use stored::items::counts_of;
-use table::check::is_table;
+use carding::carded::LONGEST_STREAM;
+use rules::bases::bases_of;
+use rules::bases::frame_words;
+use stored::items::Opened;
+use stored::items::Opening;
+use table::check::opening;
+use table::reason::Reason;
+use table::reason::reason_number;
 
 // 25, 28, or the frame's words handed out.
-fn search(t: &[u8], stream: &[u8], from: usize, words: &mut [u16]) -> Carded
-    requires { ⌜ Ruled (now t) ⌝ }
-    requires { ⌜ (length (now stream) ≤ 65536) × (from < 4294967296) ⌝ }
+fn search(t: &[u8], o: Opened, stream: &[u8], from: usize, words: &mut [u16]) -> Carded
+    requires { ⌜ RuledBy (now t) o ⌝ }
+    requires { ⌜ (length (now stream) ≤ longestStream) × (from < 4294967296) ⌝ }
     ensures { λ r. ⌜ (r ≡ searched (view (now (t .entry))) (now (stream .entry)) from (now (words .entry))) × (now (words .exit) ≡ handedFor (view (now (t .entry))) (now (stream .entry)) (now (words .entry)) r) ⌝ }
 {
-    let s = span_of(t);
+    let s = span_of(t, o);
     let begins = s.begins;
-    let position = position_from(t, stream, from, &begins, s.bits);
+    let position = position_from(t, o, stream, from, &begins, s.bits);
     if 8 * stream.len() < position {
-        return Carded::NoFrame;
+        return Carded::Refused(Reason::NoFrame);
     }
-    let count = frame_words(t);
+    let before = bases_of(t, o);
+    let count = frame_words(t, o, &before);
     if words.len() < count {
-        return Carded::FewWords;
+        return Carded::Refused(Reason::FewWords);
     }
-    hand_out(t, stream, position, &begins, words);
+    hand_out(t, o, stream, position, &begins, words);
     Carded::Found {
         position: position as u32,
         count: count as u32,
@@ -41,17 +47,17 @@ fn search(t: &[u8], stream: &[u8], from: usize, words: &mut [u16]) -> Carded
 pub fn card_from(t: &[u8], stream: &[u8], from: u32, words: &mut [u16]) -> Carded
     ensures { λ r. ⌜ (r ≡ cardedOf (now (t .entry)) (now (stream .entry)) from (now (words .entry))) × (now (words .exit) ≡ handedOf (now (t .entry)) (now (stream .entry)) from (now (words .entry))) ⌝ }
 {
-    if !is_table(t) {
-        return Carded::NoTable;
+    let opened = opening(t);
+    let Opening::Table(o) = opened else {
+        return Carded::Refused(Reason::NoTable);
+    };
+    if o.counts.parameters == 0 {
+        return Carded::Refused(Reason::NoParameters);
     }
-    let n = counts_of(t);
-    if n.parameters == 0 {
-        return Carded::NoParameters;
+    if LONGEST_STREAM < stream.len() {
+        return Carded::Refused(Reason::LongStream);
     }
-    if 65536 < stream.len() {
-        return Carded::LongStream;
-    }
-    search(t, stream, from as usize, words)
+    search(t, o, stream, from as usize, words)
 }
 
 // 02's number of the answer; 0 for a frame.
@@ -63,11 +69,7 @@ pub fn card_number(r: Carded) -> u32
             position: _,
             count: _,
         } => 0,
-        Carded::NoTable => 18,
-        Carded::NoParameters => 27,
-        Carded::LongStream => 38,
-        Carded::NoFrame => 25,
-        Carded::FewWords => 28,
+        Carded::Refused(reason) => reason_number(reason),
     }
 }
 
@@ -75,9 +77,10 @@ pub fn card_number(r: Carded) -> u32
 pub fn frame_bits(t: &[u8]) -> u32
     ensures { λ r. ⌜ r ≡ bitsOfFrame (now (t .entry)) ⌝ }
 {
-    if !is_table(t) {
+    let opened = opening(t);
+    let Opening::Table(o) = opened else {
         return 0;
-    }
-    let s = span_of(t);
+    };
+    let s = span_of(t, o);
     s.bits as u32
 }

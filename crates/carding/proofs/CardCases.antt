@@ -13,7 +13,9 @@ use Rattle.model.specs.Frame.{frameWords}
 use Rattle.model.specs.View.{view}
 use Rattle.model.specs.Accepts.{accepts}
 use Rattle.carding.specs.declared.carded.Carded.{Carded}
-use Rattle.carding.specs.declared.carded.Carded.the-variants.{Found, NoTable, NoParameters, LongStream, NoFrame, FewWords}
+use Rattle.table.specs.declared.reason.Reason.{Reason}
+use Rattle.table.specs.declared.reason.Reason.the-variants.{NoTable, NoParameters, LongStream, NoFrame, FewWords}
+use Rattle.carding.specs.declared.carded.Carded.the-variants.{Found, Refused}
 use Rattle.carding.specs.Layout.{frameBits, frameAt}
 use Rattle.carding.specs.Search.{positionFrom, foundFrom}
 use Rattle.carding.specs.Answer.{searched, cardedIn, cardedOf, handedFor, handedOf, longestStream, bitsOfFrame}
@@ -25,7 +27,7 @@ module _ (c : Content) (y : List ℕ) (from : ℕ) (words : List ℕ) {p : ℕ} 
   abbrev pub Searched : Carded → List ℕ → Type 0
   Searched r o = (r ≡ searched c y from words) × (o ≡ handedFor c y words r)
 
-  pub refused-25 : 8 * length y < p → Searched NoFrame words
+  pub refused-25 : 8 * length y < p → Searched (Refused NoFrame) words
   unfolding searched foundFrom handedFor
   refused-25 l =
       let f : leb (positionFrom c y from) (8 * length y) ≡ false = lt-leb (positionFrom c y from) (8 * length y) (omega arith) in
@@ -35,7 +37,7 @@ module _ (c : Content) (y : List ℕ) (from : ℕ) (words : List ℕ) {p : ℕ} 
     there : leb (positionFrom c y from) (8 * length y) ≡ true
     there = le-leb (positionFrom c y from) (8 * length y) (omega arith)
 
-    pub refused-28 : length words < n → Searched FewWords words
+    pub refused-28 : length words < n → Searched (Refused FewWords) words
     unfolding searched foundFrom handedFor
     refused-28 k = (rw (there, lt-leb (frameWords c) (length words) (omega arith)), refl)
 
@@ -53,19 +55,19 @@ module _ (b y : List ℕ) (from : ℕ) (words : List ℕ) where
   unfolding handedOf
   answers r e h = (e, h ∙ ap (handedFor (view b) y words) e)
 
-  pub refused-18 : accepts b ≡ false → Answers NoTable words
+  pub refused-18 : accepts b ≡ false → Answers (Refused NoTable) words
   unfolding cardedOf handedFor
-  refused-18 h = answers NoTable (rw h) refl
+  refused-18 h = answers (Refused NoTable) (rw h) refl
 
   module _ (h : accepts b ≡ true) where
-    pub refused-27 : parameters (view b) ≡ 0 → Answers NoParameters words
+    pub refused-27 : parameters (view b) ≡ 0 → Answers (Refused NoParameters) words
     unfolding cardedOf cardedIn handedFor
-    refused-27 e = answers NoParameters (rw (h, eq-eqb (parameters (view b)) 0 e)) refl
+    refused-27 e = answers (Refused NoParameters) (rw (h, eq-eqb (parameters (view b)) 0 e)) refl
 
     module _ (some : parameters (view b) ≡ 0 → ⊥) where
-      pub refused-38 : longestStream < length y → Answers LongStream words
+      pub refused-38 : longestStream < length y → Answers (Refused LongStream) words
       unfolding cardedOf cardedIn handedFor
-      refused-38 l = answers LongStream (rw (h, ne-eqb (parameters (view b)) 0 some, lt-leb (length y) longestStream l)) refl
+      refused-38 l = answers (Refused LongStream) (rw (h, ne-eqb (parameters (view b)) 0 some, lt-leb (length y) longestStream l)) refl
 
       pub answered : length y ≤ longestStream → {r : Carded} {o : List ℕ} → r ≡ searched (view b) y from words → o ≡ handedFor (view b) y words r → Answers r o
       unfolding cardedOf cardedIn
@@ -74,6 +76,10 @@ module _ (b y : List ℕ) (from : ℕ) (words : List ℕ) where
 -- two frames that are found alike
 pub found-same : {p q n m : ℕ} → Found p n ≡ Found q m → (p ≡ q) × (n ≡ m)
 found-same e = ((cc), (cc))
+
+-- and none that is refused
+pub found-not : {r : Reason} {p n : ℕ} → Refused r ≡ Found p n → ⊥
+found-not e = let z : _≡_ {A = ℕ} 0 1 = cc in omega arith
 
 -- ---- how many bits a frame has
 

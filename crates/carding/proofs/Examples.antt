@@ -15,7 +15,8 @@ use Rattle.model.specs.Wall.{sync, pitch}
 use Rattle.stream.specs.Stream.{streamBit, bitsFrom}
 use Rattle.framing.specs.Reading.{rawOf}
 use Rattle.framing.specs.Comparing.{differsAt, differsIn, comparedIn, comparedNumber}
-use Rattle.carding.specs.declared.carded.Carded.the-variants.{Found, NoFrame, FewWords}
+use Rattle.table.specs.declared.reason.Reason.the-variants.{NoFrame, FewWords}
+use Rattle.carding.specs.declared.carded.Carded.the-variants.{Found, Refused}
 use Rattle.carding.specs.Layout.{subframeBits, bitsBefore, wordsBegin, wordBegins, wordIn, frameAt, wordStarts, sourceAt, rawAt}
 use Rattle.carding.specs.Search.{wholeAt, agreesAt, positionFrom, foundFrom}
 use Rattle.carding.specs.Answer.{searched, cardedIn, handedFor}
@@ -48,11 +49,11 @@ unfolding rawAt sourceAt wordStarts gather places placesFrom pieces piece wordCo
 pitch-straight = refl
 
 -- one bit later there is none: 25; and 28 with three words lent
-pub later : cardedIn margined stream 5 (1 ∷ 2 ∷ 3 ∷ 4 ∷ []) ≡ NoFrame
+pub later : cardedIn margined stream 5 (1 ∷ 2 ∷ 3 ∷ 4 ∷ []) ≡ Refused NoFrame
 unfolding cardedIn searched foundFrom positionFrom wholeAt agreesAt comparedNumber comparedIn differsIn differsAt rawOf frameWords join partOf pieces piece wordCounts position before sum frameAt wordIn wordBegins wordsBegin bitsBefore subframeBits bitsFrom streamBit bitAt field
 later = refl
 
-pub few : cardedIn margined stream 0 (1 ∷ 2 ∷ 3 ∷ []) ≡ FewWords
+pub few : cardedIn margined stream 0 (1 ∷ 2 ∷ 3 ∷ []) ≡ Refused FewWords
 unfolding cardedIn searched foundFrom positionFrom wholeAt agreesAt comparedNumber comparedIn differsIn differsAt rawOf frameWords join partOf pieces piece wordCounts position before sum frameAt wordIn wordBegins wordsBegin bitsBefore subframeBits bitsFrom streamBit bitAt field
 few = refl
 
@@ -69,7 +70,7 @@ trailed =
 abbrev pub bare : List ℕ
 bare = 71 ∷ 82 ∷ 0 ∷ 0 ∷ 96 ∷ 0 ∷ []
 
-pub cut-short : cardedIn trailed bare 0 (1 ∷ 2 ∷ 3 ∷ 4 ∷ []) ≡ NoFrame
+pub cut-short : cardedIn trailed bare 0 (1 ∷ 2 ∷ 3 ∷ 4 ∷ []) ≡ Refused NoFrame
 unfolding cardedIn searched foundFrom positionFrom wholeAt agreesAt comparedNumber comparedIn differsIn differsAt rawOf frameWords join partOf pieces piece wordCounts position before sum frameAt wordIn wordBegins wordsBegin bitsBefore subframeBits bitsFrom streamBit bitAt field
 cut-short = refl
 

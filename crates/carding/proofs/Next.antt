@@ -1,6 +1,6 @@
 -- A frame that was found lies whole in the stream, at or behind the bit where the search began, and has some bits: whoever goes
 -- on behind it comes to an end. Assumes nothing.
-use mathlib.Core.Path.{_≡_, refl, sym, ap}
+use mathlib.Core.Path.{_≡_, refl, sym}
 use mathlib.Core.Bool.{Bool, true, false, cond}
 use mathlib.Core.List.{List}
 use Prim.Native.Nat.{ℕ, _+_, _*_, _≤_}
@@ -12,34 +12,35 @@ use lib.ListN.{length}
 use Rattle.lay.proofs.Below.{sum-up}
 use Rattle.model.specs.Content.{Content, Subframe, subframe, subframes, parameters}
 use Rattle.model.specs.Frame.{frameWords}
-use Rattle.model.specs.Limits.{base}
+use Rattle.model.specs.Limits.{Limits}
 use Rattle.model.specs.Meaning.{SubframeLaw}
 use Rattle.model.specs.View.{view}
 use Rattle.model.specs.Accepts.{accepts}
 use Rattle.model.proofs.Views.{subframes-view, subframe-view}
 use Rattle.rules.specs.Ruled.{Ruled}
 use Rattle.table.proofs.Accepting.{accepted-ruled}
-use Rattle.carding.specs.declared.carded.Carded.the-variants.{Found, NoTable, NoParameters, LongStream, NoFrame, FewWords}
+use Rattle.table.specs.declared.reason.Reason.the-variants.{NoTable, NoParameters, LongStream, NoFrame, FewWords}
+use Rattle.carding.specs.declared.carded.Carded.the-variants.{Found, Refused}
 use Rattle.carding.specs.Layout.{subframeBits, bitsBefore, frameBits}
 use Rattle.carding.specs.Search.{positionFrom, foundFrom}
-use Rattle.carding.specs.Answer.{searched, cardedIn, cardedOf, cardedNumber, longestStream, bitsOfFrame}
+use Rattle.carding.specs.Answer.{searched, cardedIn, cardedOf, longestStream, bitsOfFrame}
 use Rattle.carding.proofs.Answers.{whole-inside, found-first}
-use Rattle.carding.proofs.CardCases.{bits-there, found-same}
+use Rattle.carding.proofs.CardCases.{bits-there, found-same, found-not}
 
 -- ---- a frame has some bits
 
-subframe-some : (s : Subframe) → SubframeLaw base s → 1 ≤ subframeBits s
+subframe-some : {m : Limits} (s : Subframe) → SubframeLaw m s → 1 ≤ subframeBits s
 unfolding subframeBits
 subframe-some s h = let k : 1 * 1 ≤ s .words * s .bits = mul-le-mul (h .someWords) (h .someBits) in omega (arith, k)
 
 module _ (b : List ℕ) (r : Ruled b) where
   first-some : 1 ≤ subframeBits (subframe (view b) 0)
-  first-some = rw (subframe-view b 0 (r .laid .head .some)) (subframe-some _ (r .subframes .each 0 (r .laid .head .some)))
+  first-some = rw (subframe-view b 0 (r .laid .head .header .some)) (subframe-some _ (r .subframes .each 0 (r .laid .head .header .some)))
 
   pub bits-some : 1 ≤ frameBits (view b)
   unfolding bitsBefore
   bits-some =
-      let k = sum-up (subframes (view b)) (λ k. subframeBits (subframe (view b) k)) 0 (omega (arith, subframes-view b, r .laid .head .some)) in
+      let k = sum-up (subframes (view b)) (λ k. subframeBits (subframe (view b) k)) 0 (omega (arith, subframes-view b, r .laid .head .header .some)) in
       omega (arith, k, first-some)
 
 -- ---- what an answered frame says
@@ -73,14 +74,14 @@ module _ (b y : List ℕ) (from : ℕ) (words : List ℕ) (p n : ℕ) where
       }
 
   pub found-stands : cardedOf b y from words ≡ Found p n → Stands b y from words p n
-  unfolding cardedOf cardedIn searched cardedNumber
+  unfolding cardedOf cardedIn searched
   found-stands e = go (accepts b) (eqb (parameters c) 0) (leb (length y) longestStream) (foundFrom c y from) (leb (frameWords c) (length words)) refl refl refl refl e
     where
       go : (a z l f w : Bool) → accepts b ≡ a → leb (length y) longestStream ≡ l → foundFrom c y from ≡ f → leb (frameWords c) (length words) ≡ w
-          → cond a (cond z NoParameters (cond l (cond f (cond w (Found (positionFrom c y from) (frameWords c)) FewWords) NoFrame) LongStream)) NoTable ≡ Found p n → Stands b y from words p n
+          → cond a (cond z (Refused NoParameters) (cond l (cond f (cond w (Found (positionFrom c y from) (frameWords c)) (Refused FewWords)) (Refused NoFrame)) (Refused LongStream))) (Refused NoTable) ≡ Found p n → Stands b y from words p n
       go true false true true true a l f w e = stands a (leb-true _ _ l) f (leb-true _ _ w) e
-      go true false true true false a l f w e = absurd (omega (arith, ap cardedNumber e))
-      go true false true false w₀ a l f w e = absurd (omega (arith, ap cardedNumber e))
-      go true false false f₀ w₀ a l f w e = absurd (omega (arith, ap cardedNumber e))
-      go true true l₀ f₀ w₀ a l f w e = absurd (omega (arith, ap cardedNumber e))
-      go false z₀ l₀ f₀ w₀ a l f w e = absurd (omega (arith, ap cardedNumber e))
+      go true false true true false a l f w e = absurd (found-not e)
+      go true false true false w₀ a l f w e = absurd (found-not e)
+      go true false false f₀ w₀ a l f w e = absurd (found-not e)
+      go true true l₀ f₀ w₀ a l f w e = absurd (found-not e)
+      go false z₀ l₀ f₀ w₀ a l f w e = absurd (found-not e)

@@ -18,7 +18,8 @@ use Rattle.sample.specs.Source.{bitIn, gather, places}
 use Rattle.sample.proofs.Sources.{join-gather, sources-agree}
 use Rattle.model.specs.Content.{Content, Component, Parameter, Sample, subframe, subframes, parameter, sample, component}
 use Rattle.model.specs.Samples.{wordCounts, piece, pieces}
-use Rattle.model.specs.Limits.{Limits, base}
+use Rattle.model.specs.Limits.{Limits}
+use Rattle.model.specs.Forms.{limitsIn}
 use Rattle.model.specs.Meaning.{ComponentLaw, SampleLaw}
 use Rattle.model.specs.Stored.{parametersIn}
 use Rattle.model.specs.View.{view}
@@ -100,7 +101,7 @@ module _ (c : Content) (y : List ℕ) (p : ℕ) where
 
 -- of a table that the check accepts, every sample
 module _ (b y : List ℕ) (p i j : ℕ) (r : Ruled b) (l : i < parametersIn b) (m : j < length (parameter (view b) i .samples)) where
-  law : SampleLaw base (view b .subframes) (sample (parameter (view b) i) j)
+  law : SampleLaw (limitsIn b) (view b .subframes) (sample (parameter (view b) i) j)
   law = rw (parameter-view b i l) (r .parameters .each i l .each j (subst (λ (q : Parameter). j < length (q .samples)) (parameter-view b i l) m))
 
   pub straight : rawAt (view b) y p i j ≡ rawOf (view b) (frameAt (view b) y p) i j

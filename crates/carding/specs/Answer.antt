@@ -10,7 +10,9 @@ use Rattle.model.specs.Frame.{frameWords}
 use Rattle.model.specs.View.{view}
 use Rattle.model.specs.Accepts.{accepts}
 use Rattle.carding.specs.declared.carded.Carded.{Carded}
-use Rattle.carding.specs.declared.carded.Carded.the-variants.{Found, NoTable, NoParameters, LongStream, NoFrame, FewWords}
+use Rattle.carding.specs.declared.carded.Carded.the-variants.{Found, Refused}
+use Rattle.table.specs.declared.reason.Reason.the-variants.{NoTable, NoParameters, LongStream, NoFrame, FewWords}
+use Rattle.table.specs.Reasons.{reasonNumber}
 use Rattle.carding.specs.Layout.{frameBits, frameAt}
 use Rattle.carding.specs.Search.{positionFrom, foundFrom}
 
@@ -22,25 +24,21 @@ longestStream = 65536
 unfoldable pub searched : Content → List ℕ → ℕ → List ℕ → Carded
 searched c y from words =
     cond (foundFrom c y from)
-    (cond (leb (frameWords c) (length words)) (Found (positionFrom c y from) (frameWords c)) FewWords)
-    NoFrame
+    (cond (leb (frameWords c) (length words)) (Found (positionFrom c y from) (frameWords c)) (Refused FewWords))
+    (Refused NoFrame)
 
 -- 27, "a table without parameters"; 38, "a longer stream"
 unfoldable pub cardedIn : Content → List ℕ → ℕ → List ℕ → Carded
 cardedIn c y from words =
-    cond (eqb (parameters c) 0) NoParameters (cond (leb (length y) longestStream) (searched c y from words) LongStream)
+    cond (eqb (parameters c) 0) (Refused NoParameters) (cond (leb (length y) longestStream) (searched c y from words) (Refused LongStream))
 
 unfoldable pub cardedOf : List ℕ → List ℕ → ℕ → List ℕ → Carded
-cardedOf b y from words = cond (accepts b) (cardedIn (view b) y from words) NoTable
+cardedOf b y from words = cond (accepts b) (cardedIn (view b) y from words) (Refused NoTable)
 
 -- "hand out that frame's words"; "words beyond the frame stay", and all where the card is refused
 unfoldable pub handedFor : Content → List ℕ → List ℕ → Carded → List ℕ
 handedFor c y words (Found p n) = put words 0 (frameAt c y p)
-handedFor c y words NoTable = words
-handedFor c y words NoParameters = words
-handedFor c y words LongStream = words
-handedFor c y words NoFrame = words
-handedFor c y words FewWords = words
+handedFor c y words (Refused r) = words
 
 unfoldable pub handedOf : List ℕ → List ℕ → ℕ → List ℕ → List ℕ
 handedOf b y from words = handedFor (view b) y words (cardedOf b y from words)
@@ -48,11 +46,7 @@ handedOf b y from words = handedFor (view b) y words (cardedOf b y from words)
 -- 02's number; 0 for a frame
 unfoldable pub cardedNumber : Carded → ℕ
 cardedNumber (Found p n) = 0
-cardedNumber NoTable = 18
-cardedNumber NoParameters = 27
-cardedNumber LongStream = 38
-cardedNumber NoFrame = 25
-cardedNumber FewWords = 28
+cardedNumber (Refused r) = reasonNumber r
 
 -- how many bits a frame of the table has: a card's next frame is looked for so many bits behind the last one's position
 unfoldable pub bitsOfFrame : List ℕ → ℕ

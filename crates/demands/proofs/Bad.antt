@@ -25,7 +25,6 @@ answered (reading.Refused w) = reading.Sample 7 3 (pos 7)
 abbrev wiped : Placed → List ℕ → List ℕ
 wiped placing.Done g = g
 wiped (placing.Refused w) g = []
-wiped placing.TooLarge g = []
 
 abbrev bad : Calls
 bad =

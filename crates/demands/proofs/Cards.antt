@@ -27,7 +27,10 @@ use Rattle.carding.specs.Layout.{frameAt, Carries}
 use Rattle.carding.specs.Search.{soughtAt, agreesAt, positionFrom, foundFrom}
 use Rattle.carding.specs.Answer.{longestStream, searched, cardedIn, cardedOf, handedFor, handedOf, cardedNumber}
 use Rattle.carding.specs.declared.carded.Carded.{Carded}
-use Rattle.carding.specs.declared.carded.Carded.the-variants.{Found, NoTable, NoParameters, LongStream, NoFrame, FewWords}
+use Rattle.carding.specs.declared.carded.Carded.the-variants.{Found, Refused}
+use Rattle.table.specs.declared.reason.Reason.the-variants.{NoTable, NoParameters, LongStream, NoFrame, FewWords}
+use Rattle.table.specs.Reasons.{reasonNumber}
+use Rattle.table.proofs.Reasoning.{reason-some, one-reason}
 use Rattle.carding.proofs.Answers.{found-first, first-is}
 use Rattle.carding.proofs.Back.{carried}
 use Rattle.carding.proofs.Frames.{frame-long, frame-meets}
@@ -62,13 +65,13 @@ found-some c y from =
 -- ---- 18, 27, 38, 25, 28
 
 pub card-number : (t y : List ℕ) (from : ℕ) (w : List ℕ) → cardedNumber (cardedOf t y from w) ≡ firstBroken (cardRules t y from w)
-unfolding cardedOf cardedIn searched cardedNumber firstBroken
+unfolding cardedOf cardedIn searched cardedNumber reasonNumber firstBroken
 card-number t y from w =
     go (accepts t) (eqb (parameters (view t)) 0) (notLong y) (foundFrom (view t) y from) (enoughWords (view t) w)
     ∙ ap₂ (λ (a b : Bool). cond (accepts t) (cond a (cond (notLong y) (cond b (cond (enoughWords (view t) w) 0 28) 25) 38) 27) 18)
     (some-none (parameters (view t))) (found-some (view t) y from)
   where
-    go : (a n l f e : Bool) → cardedNumber (cond a (cond n NoParameters (cond l (cond f (cond e (Found (positionFrom (view t) y from) (frameWords (view t))) FewWords) NoFrame) LongStream)) NoTable) ≡ cond a (cond (not n) (cond l (cond f (cond e 0 28) 25) 38) 27) 18
+    go : (a n l f e : Bool) → cardedNumber (cond a (cond n (Refused NoParameters) (cond l (cond f (cond e (Found (positionFrom (view t) y from) (frameWords (view t))) (Refused FewWords)) (Refused NoFrame)) (Refused LongStream))) (Refused NoTable)) ≡ cond a (cond (not n) (cond l (cond f (cond e 0 28) 25) 38) 27) 18
     go false n l f e = refl
     go true true l f e = refl
     go true false false f e = refl
@@ -83,11 +86,7 @@ card-unchanged t y from w n = go (cardedOf t y from w) n
   where
     go : (r : Carded) → (cardedNumber r ≡ 0 → ⊥) → handedFor (view t) y w r ≡ w
     go (Found p k) m = absurd (m refl)
-    go NoTable m = refl
-    go NoParameters m = refl
-    go LongStream m = refl
-    go NoFrame m = refl
-    go FewWords m = refl
+    go (Refused r) m = refl
 
 -- ---- where none is broken
 
@@ -125,9 +124,7 @@ meets-words c f m = rule _ m 1
 number-passes : (x : Compared) → comparedNumber x ≡ 0 → x ≡ Passes
 unfolding comparedNumber
 number-passes Passes e = refl
-number-passes compared.NoTable e = absurd (omega arith)
-number-passes compared.OtherCount e = absurd (omega arith)
-number-passes compared.HighWord e = absurd (omega arith)
+number-passes (compared.Refused r) e = absurd (reason-some r e)
 number-passes (compared.Differs s) e = absurd (omega arith)
 
 module _ (t y : List ℕ) (from : ℕ) (w : List ℕ) (h : Findable t y from w) where
@@ -190,17 +187,8 @@ found-findable t y from w p n e = findable t y from w (sym (card-number t y from
 
 -- ---- a number says which refusal it is
 
-abbrev cardedBy : ℕ → Carded
-cardedBy n = cond (eqb n 18) NoTable (cond (eqb n 27) NoParameters (cond (eqb n 38) LongStream (cond (eqb n 25) NoFrame FewWords)))
-
-carded-back : (r : Carded) → 0 < cardedNumber r → r ≡ cardedBy (cardedNumber r)
-unfolding cardedNumber
-carded-back (Found p n) h = absurd (omega arith)
-carded-back NoTable h = refl
-carded-back NoParameters h = refl
-carded-back LongStream h = refl
-carded-back NoFrame h = refl
-carded-back FewWords h = refl
-
 pub same-carded : (x y : Carded) → cardedNumber x ≡ cardedNumber y → 0 < cardedNumber y → x ≡ y
-same-carded x y e h = carded-back x (omega arith) ∙ (ap cardedBy e ∙ sym (carded-back y h))
+unfolding cardedNumber
+same-carded (Found p n) y e h = absurd (omega arith)
+same-carded (Refused q) (Found p n) e h = absurd (omega arith)
+same-carded (Refused q) (Refused r) e h = ap Refused (one-reason q r e)

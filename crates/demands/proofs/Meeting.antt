@@ -18,6 +18,7 @@ use Rattle.sample.specs.Joining.{join, width}
 use Rattle.sample.specs.Source.{bitIn}
 use Rattle.model.specs.Accepts.{accepts}
 use Rattle.model.specs.Content.{Content}
+use Rattle.model.specs.Forms.{newest, sheetLimits}
 use Rattle.model.specs.Frame.{meets}
 use Rattle.model.specs.Samples.{widthOf}
 use Rattle.model.specs.View.{view}
@@ -106,11 +107,7 @@ placing-unchanged t f p s v n = go (wantedOf t f p s) n
 
     go : (w : Wanted) → (placeNumber (placeFor (view t) w v) ≡ 0 → ⊥) → placedFor (view t) f w v ≡ f
     go (wanted.Listed i j) m = fit i j (ltb v (2 ^ widthIs (view t) i j)) refl m
-    go wanted.NoTable m = refl
-    go wanted.NoParameter m = refl
-    go wanted.NoSample m = refl
-    go wanted.OtherCount m = refl
-    go wanted.HighWord m = refl
+    go (wanted.Refused r) m = refl
 
 module _ (B : Calls) (K : Kept B) where
   -- ---- sheets
@@ -122,11 +119,11 @@ module _ (B : Calls) (K : Kept B) where
   making : (s l : List ℕ) (r : Ruling) → judgeOf s ≡ r → B .make s l ≡ madeOf r (length l)
   making s l r e = K .makes s l .0 ∙ ap (λ (v : Ruling). madeOf v (length l)) e
 
-  taken-exactly : (s l : List ℕ) (c : Content) → judgeOf s ≡ Accepted c → length (write 1 c) ≤ length l → B .make s l ≡ made.Length (length (write 1 c))
-  taken-exactly s l c e h = making s l (Accepted c) e ∙ rw (le-leb (length (write 1 c)) (length l) h)
+  taken-exactly : (s l : List ℕ) (c : Content) → judgeOf s ≡ Accepted c → length (write newest c) ≤ length l → B .make s l ≡ made.Length (length (write newest c))
+  taken-exactly s l c e h = making s l (Accepted c) e ∙ rw (le-leb (length (write newest c)) (length l) h)
 
-  small-exactly : (s l : List ℕ) (c : Content) → judgeOf s ≡ Accepted c → length l < length (write 1 c) → B .make s l ≡ made.Refused TableTooSmall 0
-  small-exactly s l c e h = making s l (Accepted c) e ∙ rw (lt-leb (length (write 1 c)) (length l) h)
+  small-exactly : (s l : List ℕ) (c : Content) → judgeOf s ≡ Accepted c → length l < length (write newest c) → B .make s l ≡ made.Refused TableTooSmall 0
+  small-exactly s l c e h = making s l (Accepted c) e ∙ rw (lt-leb (length (write newest c)) (length l) h)
 
   says-so : (s l : List ℕ) (n : ℕ) (c : Content) → B .make s l ≡ made.Length n → judgeOf s ≡ Accepted c → view (take n (B .made s l)) ≡ c
   says-so s l n c h e =
@@ -210,8 +207,8 @@ module _ (B : Calls) (K : Kept B) where
   left-bytes : (s l : List ℕ) (n : ℕ) → B .make s l ≡ made.Length n → AreBytes (take n (B .made s l))
   left-bytes s l n h =
       let t = made-table s l n (sym (K .makes s l .0) ∙ h) in
-      let e : take n (B .made s l) ≡ write 1 (t .content) = ap (take n) (K .makes s l .1) ∙ t .table in
-      subst (λ (x : List ℕ). AreBytes x) (sym e) (write-bytes 1 (t .content) (accepted-lawful s (t .content) (t .accepted)))
+      let e : take n (B .made s l) ≡ write newest (t .content) = ap (take n) (K .makes s l .1) ∙ t .table in
+      subst (λ (x : List ℕ). AreBytes x) (sym e) (write-bytes sheetLimits newest (t .content) (accepted-lawful s (t .content) (t .accepted)))
 
   sheet : SheetTaken B
   sheet =

@@ -16,15 +16,17 @@ use Rattle.model.specs.Content.{parameter, parameters, subframes}
 use Rattle.model.specs.Frame.{wordsOk}
 use Rattle.model.specs.Samples.{widthOf}
 use Rattle.model.specs.View.{view}
-use Rattle.table.specs.Answers.{checkOf, checkNumber, numbered, mnemonicIs, called, askedNumber, askedMnemonic, askedRefusal}
+use Rattle.table.specs.Answers.{checkOf, checkNumber, numberedOf, mnemonicIs, called, askedNumber, askedMnemonic, askedRefusal}
 use Rattle.table.specs.declared.check.Checked.the-variants as checked
 use Rattle.table.specs.declared.naming.Asked.the-variants as asked
 use Rattle.framing.specs.Fitting.{fitOf}
-use Rattle.framing.specs.Wanted.{fitted, wantedIn, wantedOf, wantedNumber}
+use Rattle.framing.specs.Wanted.{fitted, wantedIn, wantedOf}
 use Rattle.framing.specs.Reading.{widthIs, readFor, readOf, readNumber, sampleRead}
 use Rattle.framing.specs.Placing.{placeFor, placeOf, placeNumber}
 use Rattle.framing.specs.Comparing.{differsIn, comparedIn, fittedCompared, comparedOf, comparedNumber}
-use Rattle.framing.specs.declared.fit.Fit.the-variants.{Fits, WrongCount, TooHigh}
+use Rattle.framing.specs.declared.fit.Fit.the-variants.{Fits, Refused}
+use Rattle.table.specs.Reasons.{reasonNumber}
+use Rattle.table.specs.declared.reason.Reason.the-variants.{NoTable, OtherCount, HighWord, NoParameter, NoSample}
 use Rattle.framing.specs.declared.want.Wanted.{Wanted}
 use Rattle.framing.specs.declared.want.Wanted.the-variants as wanted
 use Rattle.framing.specs.declared.compare.Compared.the-variants as compared
@@ -41,7 +43,7 @@ found-any n p = same-tests _ _ there back
     back e = let x = any-some n p e in lt-ltb (find n p) n (omega (arith, find-least n p (x .at) (x .below) (x .holds), x .below))
 
 pub check-number : (t : List ℕ) → checkNumber (checkOf t) ≡ firstBroken (checkRules t)
-unfolding checkNumber checkOf firstBroken
+unfolding checkNumber reasonNumber checkOf firstBroken
 check-number t = go (accepts t)
   where
     go : (a : Bool) → checkNumber (cond a checked.Table checked.NotTable) ≡ cond a 0 18
@@ -50,13 +52,17 @@ check-number t = go (accepts t)
 
 -- ---- reading and placing
 
+abbrev wantedNumber : Wanted → ℕ
+wantedNumber (wanted.Listed i j) = 0
+wantedNumber (wanted.Refused r) = reasonNumber r
+
 -- the wanted sample by five tests, in 01's order
 abbrev byTests : Bool → Bool → Bool → Bool → Bool → ℕ → ℕ → Wanted
-byTests a b d e g i j = cond a (cond b (cond d (fitted (cond e (cond g Fits TooHigh) WrongCount) i j) wanted.NoSample) wanted.NoParameter) wanted.NoTable
+byTests a b d e g i j = cond a (cond b (cond d (fitted (cond e (cond g Fits (Refused HighWord)) (Refused OtherCount)) i j) (wanted.Refused NoSample)) (wanted.Refused NoParameter)) (wanted.Refused NoTable)
 
 -- where all five hold it is listed, else it has the first one's number
 number-by : (a b d e g : Bool) (i j : ℕ) → wantedNumber (byTests a b d e g i j) ≡ cond a (cond b (cond d (cond e (cond g 0 20) 19) 22) 21) 18
-unfolding wantedNumber fitted
+unfolding reasonNumber fitted
 number-by false b d e g i j = refl
 number-by true false d e g i j = refl
 number-by true true false e g i j = refl
@@ -69,19 +75,15 @@ unfolding wantedOf wantedIn fitOf firstBroken
 wanted-number t f p s = number-by (accepts t) (hasParameter (view t) p) (hasSample (view t) p s) (asManyWords (view t) f) (wordsOk (view t) f) (p - 1) (s - 1)
 
 pub read-number : (t f : List ℕ) (p s : ℕ) → readNumber (readOf t f p s) ≡ firstBroken (readRules t f p s)
-unfolding readOf readFor sampleRead readNumber wantedNumber
+unfolding readOf readFor sampleRead readNumber
 read-number t f p s = go (wantedOf t f p s) ∙ wanted-number t f p s
   where
     go : (w : Wanted) → readNumber (readFor (view t) f w) ≡ wantedNumber w
     go (wanted.Listed i j) = refl
-    go wanted.NoTable = refl
-    go wanted.NoParameter = refl
-    go wanted.NoSample = refl
-    go wanted.OtherCount = refl
-    go wanted.HighWord = refl
+    go (wanted.Refused r) = refl
 
 pub place-number : (t f : List ℕ) (p s v : ℕ) → placeNumber (placeOf t f p s v) ≡ firstBroken (placeRules t f p s v)
-unfolding placeOf placeFor placeNumber wantedOf wantedIn wantedNumber fitted fitOf widthIs widthOf componentsOf firstBroken
+unfolding placeOf placeFor placeNumber reasonNumber wantedOf wantedIn fitted fitOf widthIs widthOf componentsOf firstBroken
 place-number t f p s v = go (accepts t) (hasParameter (view t) p) (hasSample (view t) p s) (asManyWords (view t) f) (wordsOk (view t) f)
   where
     last : (b : Bool) → ltb v (2 ^ widthIs (view t) (p - 1) (s - 1)) ≡ b → placeNumber (placeFor (view t) (wanted.Listed (p - 1) (s - 1)) v) ≡ cond b 0 23
@@ -99,7 +101,7 @@ place-number t f p s v = go (accepts t) (hasParameter (view t) p) (hasSample (vi
 -- ---- comparing
 
 pub compare-number : (t f : List ℕ) → comparedNumber (comparedOf t f) ≡ firstBroken (compareRules t f)
-unfolding comparedOf comparedIn comparedNumber fittedCompared fitOf firstBroken
+unfolding comparedOf comparedIn comparedNumber reasonNumber fittedCompared fitOf firstBroken
 compare-number t f =
     go (accepts t) (asManyWords (view t) f) (wordsOk (view t) f) (ltb at (subframes (view t)))
     ∙ ap (λ (x : Bool). cond (accepts t) (cond (asManyWords (view t) f) (cond (wordsOk (view t) f) (cond (not x) 0 24) 20) 19) 18) (found-any (subframes (view t)) (λ s. differsIn (view t) f (s + 1)))
@@ -107,7 +109,7 @@ compare-number t f =
     at : ℕ
     at = find (subframes (view t)) (λ s. differsIn (view t) f (s + 1))
 
-    go : (a e g d : Bool) → comparedNumber (cond a (fittedCompared (cond e (cond g Fits TooHigh) WrongCount) (cond d (compared.Differs (at + 1)) compared.Passes)) compared.NoTable) ≡ cond a (cond e (cond g (cond (not d) 0 24) 20) 19) 18
+    go : (a e g d : Bool) → comparedNumber (cond a (fittedCompared (cond e (cond g Fits (Refused HighWord)) (Refused OtherCount)) (cond d (compared.Differs (at + 1)) compared.Passes)) (compared.Refused NoTable)) ≡ cond a (cond e (cond g (cond (not d) 0 24) 20) 19) 18
     go false e g d = refl
     go true false g d = refl
     go true true false d = refl
@@ -117,16 +119,16 @@ compare-number t f =
 -- ---- naming
 
 pub name-number : (t : List ℕ) (p : ℕ) → askedRefusal (askedNumber t p) ≡ firstBroken (nameRules t p)
-unfolding askedRefusal askedNumber numbered firstBroken
+unfolding askedRefusal reasonNumber askedNumber numberedOf firstBroken
 name-number t p = go (accepts t) (hasParameter (view t) p)
   where
-    go : (a b : Bool) → askedRefusal (cond a (cond b (asked.Parameter (p - 1)) asked.NoParameter) asked.NoTable) ≡ cond a (cond b 0 21) 18
+    go : (a b : Bool) → askedRefusal (cond a (cond b (asked.Parameter (p - 1)) (asked.Refused NoParameter)) (asked.Refused NoTable)) ≡ cond a (cond b 0 21) 18
     go false b = refl
     go true false = refl
     go true true = refl
 
 pub mnemonic-number : (t m : List ℕ) → askedRefusal (askedMnemonic t m) ≡ firstBroken (mnemonicRules t m)
-unfolding askedRefusal askedMnemonic called mnemonicIs firstBroken
+unfolding askedRefusal reasonNumber askedMnemonic called mnemonicIs firstBroken
 mnemonic-number t m =
     go (accepts t) (leb 1 (length m) && ltb at (parameters (view t)))
     ∙ ap (λ (x : Bool). cond (accepts t) (cond (leb 1 (length m) && x) 0 21) 18) (found-any (parameters (view t)) (λ i. same (parameter (view t) i .mnemonic) m))
@@ -134,7 +136,7 @@ mnemonic-number t m =
     at : ℕ
     at = find (parameters (view t)) (λ i. same (parameter (view t) i .mnemonic) m)
 
-    go : (a b : Bool) → askedRefusal (cond a (cond b (asked.Parameter at) asked.NoParameter) asked.NoTable) ≡ cond a (cond b 0 21) 18
+    go : (a b : Bool) → askedRefusal (cond a (cond b (asked.Parameter at) (asked.Refused NoParameter)) (asked.Refused NoTable)) ≡ cond a (cond b 0 21) 18
     go false b = refl
     go true false = refl
     go true true = refl

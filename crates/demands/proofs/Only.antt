@@ -4,13 +4,14 @@ use Prim.Native.Nat.{ℕ, _-_, _^_, _≤_, _<_}
 use native.Mathlib.Omega.{arith}
 use native.Mathlib.Decide.{decLe, decLt, ℕ-discrete}
 use mathlib.Core.Bool.{true}
-use mathlib.Core.Path.{_≡_, refl, sym, ap, subst, _∙_}
+use mathlib.Core.Path.{_≡_, refl, sym, ap, ap₂, subst, _∙_}
 use mathlib.Core.List.{List}
 use mathlib.Core.Logic.{inl, inr}
 use denote.Ref.{RefT, now}
-use borrow.Author.Tests.{le-leb, lt-leb, ltb-true}
+use borrow.Author.Tests.{le-leb, lt-leb, leb-true, ltb-true}
 use lib.IntN.{ℤ}
 use lib.ListN.{length, take, take-append-drop}
+use Rattle.lay.proofs.Tests.{rule}
 use Rattle.sample.specs.Component.{Place, Named}
 use Rattle.sample.specs.declared.component.Component.{Component}
 use Rattle.sample.specs.Joining.{join, width}
@@ -19,10 +20,11 @@ use Rattle.sample.proofs.Sources.{join-agree}
 use Rattle.sample.proofs.Frames.{frame-ext}
 use Rattle.model.specs.Accepts.{accepts}
 use Rattle.model.specs.Content.{Content}
+use Rattle.model.specs.Forms.{newest, rows, known, formIn}
 use Rattle.model.specs.Frame.{meets}
 use Rattle.model.specs.View.{view}
 use Rattle.model.specs.Write.{write}
-use Rattle.model.proofs.Statements.{accepted-writing}
+use Rattle.model.proofs.Statements.{accepted-writing, accepted-known}
 use Rattle.gather.specs.Ruling.{Ruling, Accepted, Refused, judgeOf}
 use Rattle.grammar.specs.Says.{Says}
 use Rattle.grammar.proofs.Accepted.{accepted-says}
@@ -57,6 +59,13 @@ one-frame g h cs l j o = frame-ext g h l (λ q. go q (ℕ-discrete (bitIn g q) (
     go q (yes e) = e
     go q (no n) = o q (λ m. n (join-agree g h cs j q m))
 
+-- there is one form yet: beside a second one, demand 2 must say that a new table is of the newest
+one-form : (b : List ℕ) → accepts b ≡ true → formIn b ≡ newest
+unfolding known newest rows
+one-form b h =
+    let k = accepted-known b h in
+    omega (arith, leb-true 1 (formIn b) (rule _ k 0), leb-true (formIn b) 1 (rule _ k 1))
+
 some : (n : ℕ) → (0 < n → ⊥) → n ≡ 0
 some n h = omega arith
 
@@ -71,8 +80,7 @@ part-named t r i h = record { bytes = h .bytes-are; own = h .own }
 part-empty : (t r : RefT (List ℕ)) (a : Asked) → 0 < askedRefusal a → EmptyPart t r → NameOf t r a
 unfolding nameAnswered placeAnswered askedRefusal
 part-empty t r (asked.Parameter i) n h = absurd (omega arith)
-part-empty t r asked.NoTable n h = record { bytes = h .bytes-are; own = h .own }
-part-empty t r asked.NoParameter n h = record { bytes = h .bytes-are; own = h .own }
+part-empty t r (asked.Refused q) n h = record { bytes = h .bytes-are; own = h .own }
 
 module _ (B : Calls) (D : Demands B) where
   checks : (t : List ℕ) → B .check t ≡ checkOf t
@@ -198,32 +206,32 @@ module _ (B : Calls) (D : Demands B) where
     AsPromised r = (B .make s l ≡ madeOf r (length l)) × (B .made s l ≡ leftOf r l)
 
     module _ (c : Content) (w : Says s c) where
-      enough : length (write 1 c) ≤ length l → AsPromised (Accepted c)
+      enough : length (write newest c) ≤ length l → AsPromised (Accepted c)
       enough h =
-          let n = length (write 1 c) in
+          let n = length (write newest c) in
           let e = D .two .sheet .taken s l c w h in
           let a = accepted-writing (take n (B .made s l)) (D .two .sheet .bytes s l n e) (passing e) .1 in
-          let t : take n (B .made s l) ≡ write 1 c = sym a ∙ ap (write 1) (D .two .sheet .says s l n c e w) in (
+          let t : take n (B .made s l) ≡ write newest c = sym a ∙ ap₂ write (one-form _ (passing e)) (D .two .sheet .says s l n c e w) in (
             e ∙ rw (le-leb n (length l) h),
             sym (take-append-drop n (B .made s l)) ∙ (rw (t, D .two .sheet .later s l n e, le-leb n (length l) h)),
           )
         where
-          passing : B .make s l ≡ made.Length (length (write 1 c)) → accepts (take (length (write 1 c)) (B .made s l)) ≡ true
-          passing e = accepts-of _ (sym (checks _) ∙ D .three .passes s l (length (write 1 c)) e)
+          passing : B .make s l ≡ made.Length (length (write newest c)) → accepts (take (length (write newest c)) (B .made s l)) ≡ true
+          passing e = accepts-of _ (sym (checks _) ∙ D .three .passes s l (length (write newest c)) e)
 
-      short : length l < length (write 1 c) → AsPromised (Accepted c)
+      short : length l < length (write newest c) → AsPromised (Accepted c)
       short h =
           let e = D .one .sheets s l _ _ .1 (inr (record { content = c; says = w; short = h; refusal = refl; unlined = refl })) in
-          (e ∙ rw (lt-leb (length (write 1 c)) (length l) h), D .one .sheet-unchanged s l _ _ e ∙ rw (lt-leb (length (write 1 c)) (length l) h))
+          (e ∙ rw (lt-leb (length (write newest c)) (length l) h), D .one .sheet-unchanged s l _ _ e ∙ rw (lt-leb (length (write newest c)) (length l) h))
 
     makes : Makes s l (B .make s l) (B .made s l)
     makes = go (judgeOf s) refl
       where
         go : (r : Ruling) → judgeOf s ≡ r → AsPromised r
         go (Refused q k) e = let h = D .one .sheets s l q k .1 (inl e) in (h, D .one .sheet-unchanged s l q k h)
-        go (Accepted c) e = room (decLe (length (write 1 c)) (length l))
+        go (Accepted c) e = room (decLe (length (write newest c)) (length l))
           where
-            room : Dec (length (write 1 c) ≤ length l) → AsPromised (Accepted c)
+            room : Dec (length (write newest c) ≤ length l) → AsPromised (Accepted c)
             room (yes h) = enough c (accepted-says s c e) h
             room (no h) = short c (accepted-says s c e) (omega arith)
 

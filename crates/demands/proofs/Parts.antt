@@ -16,19 +16,21 @@ use Rattle.lay.proofs.Bytes.{same-eq, same-made}
 use Rattle.lay.proofs.Tests.{and-0, and-1, refuse}
 use Rattle.model.specs.Accepts.{accepts}
 use Rattle.model.specs.Content.{Content, parameter, parameters, subframes}
-use Rattle.model.specs.Limits.{base}
+use Rattle.model.specs.Forms.{limitsIn}
 use Rattle.model.specs.Meaning.{Lawful}
 use Rattle.model.specs.View.{view}
 use Rattle.model.proofs.Meanings.{lawful-law}
-use Rattle.table.specs.Answers.{NameOf, numbered, mnemonicIs, called, askedNumber, askedMnemonic, askedRefusal, nameAnswered, placeAnswered}
+use Rattle.table.specs.Answers.{NameOf, numberedOf, mnemonicIs, called, askedNumber, askedMnemonic, askedRefusal, nameAnswered, placeAnswered}
 use Rattle.table.specs.declared.naming.Asked.{Asked}
-use Rattle.table.specs.declared.naming.Asked.the-variants.{Parameter, NoTable, NoParameter}
+use Rattle.table.specs.declared.naming.Asked.the-variants.{Parameter, Refused}
+use Rattle.table.specs.declared.reason.Reason.the-variants.{NoTable, NoParameter}
+use Rattle.table.proofs.Reasoning.{reason-some}
 use Rattle.table.proofs.Accepting.{accepts-lawful}
 use Rattle.framing.specs.Comparing.{differsIn, comparedIn, fittedCompared, comparedOf}
 use Rattle.framing.specs.Fitting.{fitOf}
 use Rattle.framing.specs.declared.fit.Fit.{Fit}
-use Rattle.framing.specs.declared.fit.Fit.the-variants.{Fits, WrongCount, TooHigh}
-use Rattle.framing.specs.declared.compare.Compared.the-variants.{Passes, NoTable as NoBytes, Differs}
+use Rattle.framing.specs.declared.fit.Fit.the-variants as fit
+use Rattle.framing.specs.declared.compare.Compared.the-variants as compared
 use Rattle.demands.specs.Refusing.{firstBroken, nameRules, mnemonicRules}
 use Rattle.demands.specs.Demands.{EmptyPart, NamePart, FirstDiffering}
 use Rattle.demands.proofs.Numbers.{name-number, mnemonic-number}
@@ -38,8 +40,7 @@ use Rattle.demands.proofs.Numbers.{name-number, mnemonic-number}
 pub unnamed-part : (t r : RefT (List ℕ)) (a : Asked) → NameOf t r a → (askedRefusal a ≡ 0 → ⊥) → EmptyPart t r
 unfolding nameAnswered placeAnswered askedRefusal
 unnamed-part t r (Parameter i) h n = absurd (n refl)
-unnamed-part t r NoTable h n = record { bytes-are = h .bytes; own = h .own }
-unnamed-part t r NoParameter h n = record { bytes-are = h .bytes; own = h .own }
+unnamed-part t r (Refused q) h n = record { bytes-are = h .bytes; own = h .own }
 
 pub named-part : (t r : RefT (List ℕ)) (a : Asked) (i : ℕ) → NameOf t r a → a ≡ Parameter i → NamePart t r i
 named-part t r a i h e = go (subst (NameOf t r) e h)
@@ -49,13 +50,13 @@ named-part t r a i h e = go (subst (NameOf t r) e h)
 
 -- which parameter is asked for, where none of 01's rules is broken
 pub name-asked : (t : List ℕ) (p : ℕ) → firstBroken (nameRules t p) ≡ 0 → askedNumber t p ≡ Parameter (p - 1)
-unfolding askedNumber numbered
+unfolding askedNumber numberedOf
 name-asked t p e = go (accepts t) (leb 1 p && leb p (parameters (view t))) (name-number t p ∙ e)
   where
-    go : (a b : Bool) → askedRefusal (cond a (cond b (Parameter (p - 1)) NoParameter) NoTable) ≡ 0 → cond a (cond b (Parameter (p - 1)) NoParameter) NoTable ≡ Parameter (p - 1)
+    go : (a b : Bool) → askedRefusal (cond a (cond b (Parameter (p - 1)) (Refused NoParameter)) (Refused NoTable)) ≡ 0 → cond a (cond b (Parameter (p - 1)) (Refused NoParameter)) (Refused NoTable) ≡ Parameter (p - 1)
     go true true q = refl
-    go true false q = unfold askedRefusal in absurd (omega arith)
-    go false b q = unfold askedRefusal in absurd (omega arith)
+    go true false q = absurd (reason-some NoParameter (unfold askedRefusal in q))
+    go false b q = absurd (reason-some NoTable (unfold askedRefusal in q))
 
 module _ (t m : List ℕ) where
   -- the mnemonic is not empty, and some parameter has it
@@ -69,15 +70,15 @@ module _ (t m : List ℕ) where
   asked-found e = go (accepts t) refl (leb 1 (length m) && ltb (mnemonicIs (view t) m) (parameters (view t))) refl e
     where
       go : (a : Bool) → accepts t ≡ a → (b : Bool) → (leb 1 (length m) && ltb (mnemonicIs (view t) m) (parameters (view t))) ≡ b
-          → askedRefusal (cond a (cond b (Parameter (mnemonicIs (view t) m)) NoParameter) NoTable) ≡ 0 → Found
+          → askedRefusal (cond a (cond b (Parameter (mnemonicIs (view t) m)) (Refused NoParameter)) (Refused NoTable)) ≡ 0 → Found
       go true h true k q =
           record {
             accepted = h;
             some = leb-true 1 (length m) (and-0 _ _ k);
             here = ltb-true _ _ (and-1 (leb 1 (length m)) _ k);
           }
-      go true h false k q = absurd (omega arith)
-      go false h b k q = absurd (omega arith)
+      go true h false k q = absurd (reason-some NoParameter q)
+      go false h b k q = absurd (reason-some NoTable q)
 
   asked-at : Found → askedMnemonic t m ≡ Parameter (mnemonicIs (view t) m)
   asked-at x = unfold askedMnemonic called in rw (x .accepted, le-leb 1 (length m) (x .some), lt-ltb _ _ (x .here))
@@ -108,8 +109,8 @@ module _ (t m : List ℕ) where
       at : ℕ
       at = find (parameters (view t)) (λ j. same (parameter (view t) j .mnemonic) m)
 
-      law : Lawful base (view t)
-      law = lawful-law base (view t) (accepts-lawful t (x .accepted))
+      law : Lawful (limitsIn t) (view t)
+      law = lawful-law (limitsIn t) (view t) (accepts-lawful t (x .accepted))
 
       least : at ≤ i
       least = find-least (parameters (view t)) (λ j. same (parameter (view t) j .mnemonic) m) i l (same-made _ _ e)
@@ -149,17 +150,16 @@ module _ (c : Content) (f : List ℕ) where
         lower = λ k g h. before k g h l;
       }
 
-subframe-same : (s k : ℕ) → Differs s ≡ Differs k → s ≡ k
+subframe-same : (s k : ℕ) → compared.Differs s ≡ compared.Differs k → s ≡ k
 subframe-same s k e = cc
 
-pub first-differing : (t f : List ℕ) (s : ℕ) → comparedOf t f ≡ Differs s → FirstDiffering (view t) f s
+pub first-differing : (t f : List ℕ) (s : ℕ) → comparedOf t f ≡ compared.Differs s → FirstDiffering (view t) f s
 unfolding comparedOf comparedIn fittedCompared
 first-differing t f s e = go (accepts t) (fitOf (view t) f) (ltb (at (view t) f) (subframes (view t))) refl e
   where
     go : (a : Bool) (d : Fit) (b : Bool) → ltb (at (view t) f) (subframes (view t)) ≡ b
-        → cond a (fittedCompared d (cond b (Differs (at (view t) f + 1)) Passes)) NoBytes ≡ Differs s → FirstDiffering (view t) f s
-    go true Fits true h q = rw (sym (subframe-same (at (view t) f + 1) s q)) (found-first (view t) f (ltb-true _ _ h))
-    go true Fits false h q = let z : _≡_ {A = ℕ} 0 1 = cc in absurd (omega arith)
-    go true WrongCount b h q = let z : _≡_ {A = ℕ} 0 1 = cc in absurd (omega arith)
-    go true TooHigh b h q = let z : _≡_ {A = ℕ} 0 1 = cc in absurd (omega arith)
+        → cond a (fittedCompared d (cond b (compared.Differs (at (view t) f + 1)) compared.Passes)) (compared.Refused NoTable) ≡ compared.Differs s → FirstDiffering (view t) f s
+    go true fit.Fits true h q = rw (sym (subframe-same (at (view t) f + 1) s q)) (found-first (view t) f (ltb-true _ _ h))
+    go true fit.Fits false h q = let z : _≡_ {A = ℕ} 0 1 = cc in absurd (omega arith)
+    go true (fit.Refused r) b h q = let z : _≡_ {A = ℕ} 0 1 = cc in absurd (omega arith)
     go false d b h q = let z : _≡_ {A = ℕ} 0 1 = cc in absurd (omega arith)

@@ -21,6 +21,7 @@ use Rattle.model.specs.Content.{Content, parameter, sample}
 use Rattle.model.specs.Samples.{wordCounts, piece, pieces}
 use Rattle.model.specs.View.{view}
 use Rattle.model.specs.Wall.{wall}
+use Rattle.model.specs.Forms.{newest}
 use Rattle.model.specs.Write.{write}
 use Rattle.text.specs.declared.refusal.Refusal.{Refusal}
 use Rattle.gather.specs.Ruling.{Refused, judgeOf}
@@ -124,7 +125,7 @@ module _ (B : Calls) (D : Demands B) where
 
   -- refusing all sheets
   pub some-sheet-taken : ((s l : List ℕ) (n : ℕ) → B .make s l ≡ made.Length n → ⊥) → ⊥
-  some-sheet-taken u = u wallSheet (write 1 wall) (length (write 1 wall)) (made-wall B D)
+  some-sheet-taken u = u wallSheet (write newest wall) (length (write newest wall)) (made-wall B D)
 
   -- refusing all tables
   pub some-table-passes : ((t : List ℕ) → B .check t ≡ NotTable) → ⊥
@@ -172,13 +173,13 @@ module _ (B : Calls) (D : Demands B) where
       second-kept (sym (join-agree g filled (componentsOf (view t) 2 1) (e ∙ sym k) second n) ∙ u t lower 2 1 63 h l second o)
 
   -- an invented table length: of whatever sheet, there is no other
-  pub no-other-length : (s l : List ℕ) (n : ℕ) (c : Content) → Says s c → B .make s l ≡ made.Length n → n ≡ length (write 1 c)
-  no-other-length s l n c w e = go (decLe (length (write 1 c)) (length l))
+  pub no-other-length : (s l : List ℕ) (n : ℕ) (c : Content) → Says s c → B .make s l ≡ made.Length n → n ≡ length (write newest c)
+  no-other-length s l n c w e = go (decLe (length (write newest c)) (length l))
     where
       lengths : {a b : ℕ} → made.Length a ≡ made.Length b → a ≡ b
       lengths q = cc
 
-      go : Dec (length (write 1 c) ≤ length l) → n ≡ length (write 1 c)
+      go : Dec (length (write newest c) ≤ length l) → n ≡ length (write newest c)
       go (yes h) = lengths (sym e ∙ D .two .sheet .taken s l c w h)
       go (no h) =
           let r = D .one .sheets s l _ _ .1 (inr (record { content = c; says = w; short = omega arith; refusal = refl; unlined = refl })) in

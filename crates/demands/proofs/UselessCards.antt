@@ -27,10 +27,10 @@ use Rattle.model.specs.Rules.{secondsOk, subframeOk, componentOk, sampleOk, byt
 use Rattle.model.specs.Identifiers.{namedApart, newlyNamed, identifierOk, identifiedApart, identifies, taken, identifiersOk}
 use Rattle.model.specs.View.{view}
 use Rattle.model.specs.Lawful.{lawful}
-use Rattle.model.specs.Limits.{base}
+use Rattle.model.specs.Forms.{newest, sheetLimits}
 use Rattle.model.specs.Wall.{wall}
 use Rattle.model.specs.Write.{write}
-use Rattle.model.proofs.Built.{view-write, write-accepted}
+use Rattle.model.proofs.Statements.{view-new, new-accepted}
 use Rattle.model.proofs.WallCase.{wall-lawful}
 use Rattle.model.proofs.TwoSubframes.{two, two-lawful}
 use Rattle.table.specs.declared.check.Checked.the-variants.{Table}
@@ -40,7 +40,8 @@ use Rattle.stream.specs.Stream.{streamBit, bitsFrom}
 use Rattle.carding.specs.Layout.{subframeBits, bitsBefore, frameBits, wordsBegin, wordBegins, wordIn, frameAt}
 use Rattle.carding.specs.Search.{wholeAt, agreesAt, soughtAt, FirstFrame}
 use Rattle.carding.specs.Answer.{cardedNumber}
-use Rattle.carding.specs.declared.carded.Carded.the-variants.{Found, NoFrame}
+use Rattle.carding.specs.declared.carded.Carded.the-variants.{Found, Refused}
+use Rattle.table.specs.declared.reason.Reason.the-variants.{NoFrame}
 use Rattle.carding.proofs.Back.{carried}
 use Rattle.carding.proofs.Examples.{bare as card, trailed}
 use Rattle.carding.proofs.Straight.{frame-bit}
@@ -110,7 +111,7 @@ first-word = refl
 
 -- ---- the wall with eight trailing bits, and a card that ends before them
 
-trailed-lawful : lawful base trailed ≡ true
+trailed-lawful : lawful sheetLimits trailed ≡ true
 unfolding every same gcdIn gcd lowest width clash clashAny twice sum before position allSamples firstSample firstComponent wordCounts piece pieces widthOf secondsOk subframeOk componentOk sampleOk byteOk textOk parameterOk namedApart newlyNamed identifierOk identifiedApart identifies taken identifiersOk lawful
 trailed-lawful = refl
 
@@ -159,25 +160,25 @@ pub record Elsewhere (c : Content) (y : List ℕ) (p : ℕ) (f : List ℕ) : Typ
 record CardRead (B : Calls) (c : Content) (y w : List ℕ) : Type 0 where
   at : ℕ
   count : ℕ
-  is : B .cardFrom (write 1 c) y 0 w ≡ Found at count
-  said : CardAsSaid B (write 1 c) y 0 w at count c
+  is : B .cardFrom (write newest c) y 0 w ≡ Found at count
+  said : CardAsSaid B (write newest c) y 0 w at count c
 
-module _ (B : Calls) (D : Demands B) (c : Content) (h : lawful base c ≡ true) (some : leb 1 (parameters c) ≡ true) where
-  checked : B .check (write 1 c) ≡ Table
+module _ (B : Calls) (D : Demands B) (c : Content) (h : lawful sheetLimits c ≡ true) (some : leb 1 (parameters c) ≡ true) where
+  checked : B .check (write newest c) ≡ Table
   unfolding firstBroken
-  checked = same-checked (B .check (write 1 c)) (accepts (write 1 c)) (D .one .tables (write 1 c)) ∙ rw (write-accepted c h)
+  checked = same-checked (B .check (write newest c)) (accepts (write newest c)) (D .one .tables (write newest c)) ∙ rw (new-accepted c h)
 
   module _ (y w : List ℕ) (short : leb (length y) 65536 ≡ true) where
-    none-read : any (8 * length y + 1) (soughtAt c y 0) ≡ false → cardedNumber (B .cardFrom (write 1 c) y 0 w) ≡ 25
+    none-read : any (8 * length y + 1) (soughtAt c y 0) ≡ false → cardedNumber (B .cardFrom (write newest c) y 0 w) ≡ 25
     unfolding firstBroken
-    none-read n = D .one .cards (write 1 c) y 0 w ∙ rw (write-accepted c h, view-write c h, some, short, n)
+    none-read n = D .one .cards (write newest c) y 0 w ∙ rw (new-accepted c h, view-new c h, some, short, n)
 
     card-read : (k : ℕ) → wholeAt c y k ≡ true → agreesAt c y k ≡ true → k < 8 * length y + 1 → leb (frameWords c) (length w) ≡ true → CardRead B c y w
     unfolding firstBroken
     card-read k a b l room =
         let n = any-made (8 * length y + 1) (soughtAt c y 0) k l (and-both (le-leb 0 k (omega arith)) (and-both a b)) in
-        let f = D .two .found (write 1 c) y 0 w (rw (write-accepted c h, view-write c h, some, short, n, room)) in
-        record { at = f .position; count = frameWords (view (write 1 c)); is = f .is; said = subst (CardAsSaid B (write 1 c) y 0 w (f .position) (frameWords (view (write 1 c)))) (view-write c h) (card-as-said B D (write 1 c) y 0 w (f .position) (frameWords (view (write 1 c))) (f .is)) }
+        let f = D .two .found (write newest c) y 0 w (rw (new-accepted c h, view-new c h, some, short, n, room)) in
+        record { at = f .position; count = frameWords (view (write newest c)); is = f .is; said = subst (CardAsSaid B (write newest c) y 0 w (f .position) (frameWords (view (write newest c)))) (view-new c h) (card-as-said B D (write newest c) y 0 w (f .position) (frameWords (view (write newest c))) (f .is)) }
 
 module _ (B : Calls) (D : Demands B) where
   wall-card : CardRead B wall card words
@@ -189,12 +190,12 @@ module _ (B : Calls) (D : Demands B) where
   wall-shifted = card-read B D wall wall-lawful refl shifted words refl 4 shifted-whole shifted-agrees (omega arith) refl
 
   -- always 25
-  pub some-card-read : ((t y : List ℕ) (from : ℕ) (w : List ℕ) → B .cardFrom t y from w ≡ NoFrame) → ⊥
-  some-card-read u = let e = sym (u (write 1 wall) card 0 words) ∙ wall-card .is in let z : _≡_ {A = ℕ} 0 1 = cc in omega arith
+  pub some-card-read : ((t y : List ℕ) (from : ℕ) (w : List ℕ) → B .cardFrom t y from w ≡ Refused NoFrame) → ⊥
+  some-card-read u = let e = sym (u (write newest wall) card 0 words) ∙ wall-card .is in let z : _≡_ {A = ℕ} 0 1 = cc in omega arith
 
   -- steps by whole bytes
   pub not-whole-bytes : ((t y : List ℕ) (from : ℕ) (w : List ℕ) (p n : ℕ) → B .cardFrom t y from w ≡ Found p n → p % 8 ≡ 0) → ⊥
-  not-whole-bytes u = go (wall-shifted .at) (u (write 1 wall) shifted 0 words (wall-shifted .at) (wall-shifted .count) (wall-shifted .is)) (wall-shifted .said .first)
+  not-whole-bytes u = go (wall-shifted .at) (u (write newest wall) shifted 0 words (wall-shifted .at) (wall-shifted .count) (wall-shifted .is)) (wall-shifted .said .first)
     where
       go : (p : ℕ) → p % 8 ≡ 0 → FirstFrame wall shifted 0 p → ⊥
       go p e f = past (decLt 4 p)
@@ -209,9 +210,9 @@ module _ (B : Calls) (D : Demands B) where
   pub all-identifiers-compared : ((t y : List ℕ) (from : ℕ) (w : List ℕ) (k : ℕ) → B .check t ≡ Table → from ≤ k → wholeAt (view t) y k ≡ true
       → differsIn (view t) (frameAt (view t) y k) 1 ≡ false → cardedNumber (B .cardFrom t y from w) ≡ 25 → ⊥) → ⊥
   all-identifiers-compared u =
-      u (write 1 two) half 0 words 0 (checked B D two two-lawful refl) (omega arith)
-      (rw (view-write two two-lawful) half-whole)
-      (rw (view-write two two-lawful) half-first)
+      u (write newest two) half 0 words 0 (checked B D two two-lawful refl) (omega arith)
+      (rw (view-new two two-lawful) half-whole)
+      (rw (view-new two two-lawful) half-first)
       (none-read B D two two-lawful refl half words refl half-nowhere)
 
   -- the trailing bits not asked: no 25 where all but the last ones are there
@@ -219,9 +220,9 @@ module _ (B : Calls) (D : Demands B) where
       → k + frameBits (view t) ≤ 8 * length y + subframe (view t) (subframes (view t) - 1) .trailing
       → agreesAt (view t) y k ≡ true → cardedNumber (B .cardFrom t y from w) ≡ 25 → ⊥) → ⊥
   trailing-bits-asked u =
-      u (write 1 trailed) card 0 words 0 (checked B D trailed trailed-lawful refl) (omega arith)
-      (rw (view-write trailed trailed-lawful) (omega (arith, trailed-bits)))
-      (rw (view-write trailed trailed-lawful) trailed-agrees)
+      u (write newest trailed) card 0 words 0 (checked B D trailed trailed-lawful refl) (omega arith)
+      (rw (view-new trailed trailed-lawful) (omega (arith, trailed-bits)))
+      (rw (view-new trailed trailed-lawful) trailed-agrees)
       (none-read B D trailed trailed-lawful refl card words refl trailed-nowhere)
 
   -- where the wall's card is found
@@ -236,7 +237,7 @@ module _ (B : Calls) (D : Demands B) where
           past (no l) = omega arith
 
   abbrev handed : List ℕ
-  handed = take (wall-card .count) (B .handedFrom (write 1 wall) card 0 words)
+  handed = take (wall-card .count) (B .handedFrom (write newest wall) card 0 words)
 
   handed-is : handed ≡ frameAt wall card 0
   handed-is = sym (carried wall handed (wall-card .said .carries)) ∙ ap (frameAt wall card) at-first
@@ -246,18 +247,18 @@ module _ (B : Calls) (D : Demands B) where
       → bitAt (getD (take n (B .handedFrom t y from w)) 0 0) 0 ≡ highBit y (p + wordBegins (view t) 0 0)) → ⊥
   unfolding bitAt wordBegins wordsBegin bitsBefore
   low-bit-first u =
-      let e = u (write 1 wall) card 0 words (wall-card .at) (wall-card .count) (wall-card .is) in
+      let e = u (write newest wall) card 0 words (wall-card .at) (wall-card .count) (wall-card .is) in
       let a : bitAt (getD handed 0 0) 0 ≡ 1 = ap (λ (f : List ℕ). bitAt (getD f 0 0) 0) handed-is ∙ ap (λ (x : ℕ). bitAt x 0) first-word in
-      let b : highBit card (wall-card .at + wordBegins (view (write 1 wall)) 0 0) ≡ 0 = rw (at-first, view-write wall wall-lawful) refl in
+      let b : highBit card (wall-card .at + wordBegins (view (write newest wall)) 0 0) ≡ 0 = rw (at-first, view-new wall wall-lawful) refl in
       omega (arith, a, b, e)
 
   -- the words of another position, of whatever other
   pub not-another-position : ((t y : List ℕ) (from : ℕ) (w : List ℕ) (p n : ℕ) → B .cardFrom t y from w ≡ Found p n
       → Elsewhere (view t) y p (take n (B .handedFrom t y from w))) → ⊥
   not-another-position u =
-      let e = u (write 1 wall) card 0 words (wall-card .at) (wall-card .count) (wall-card .is) in
+      let e = u (write newest wall) card 0 words (wall-card .at) (wall-card .count) (wall-card .is) in
       let q = e .at in
-      let a : frameAt wall card q ≡ frameAt wall card 0 = sym (ap (λ (c : Content). frameAt c card q) (view-write wall wall-lawful)) ∙ sym (e .words) ∙ handed-is in
+      let a : frameAt wall card q ≡ frameAt wall card 0 = sym (ap (λ (c : Content). frameAt c card q) (view-new wall wall-lawful)) ∙ sym (e .words) ∙ handed-is in
       let b : streamBit card (q + wordBegins wall 0 3 + 2) ≡ streamBit card (0 + wordBegins wall 0 3 + 2) =
       sym (last-bit q) ∙ ap (λ (f : List ℕ). bitAt (getD f (before (wordCounts (wall .subframes)) 1 + 3) 0) 2) a ∙ last-bit 0 in
       let d : q ≡ 0 → ⊥ = λ z. e .other (z ∙ sym at-first) in

@@ -16,6 +16,7 @@ use Rattle.model.specs.Frame.{frameWords, wordsOk, meets}
 use Rattle.model.specs.Samples.{wordCounts, piece, pieces}
 use Rattle.model.specs.View.{view}
 use Rattle.model.specs.Wall.{wall}
+use Rattle.model.specs.Forms.{newest}
 use Rattle.model.specs.Write.{write}
 use Rattle.gather.specs.WallSheet.{wallSheet}
 use Rattle.rulings.proofs.WallSaid.{wall-sheet-says}
@@ -87,17 +88,17 @@ value-in (Refused q) = pos 0
 -- ---- the wall's table, as that bench makes it
 
 abbrev pub wallTable : Calls → List ℕ
-wallTable B = take (length (write 1 wall)) (B .made wallSheet (write 1 wall))
+wallTable B = take (length (write newest wall)) (B .made wallSheet (write newest wall))
 
 module _ (B : Calls) (D : Demands B) where
-  pub made-wall : B .make wallSheet (write 1 wall) ≡ made.Length (length (write 1 wall))
-  made-wall = D .two .sheet .taken wallSheet (write 1 wall) wall wall-sheet-says (omega arith)
+  pub made-wall : B .make wallSheet (write newest wall) ≡ made.Length (length (write newest wall))
+  made-wall = D .two .sheet .taken wallSheet (write newest wall) wall wall-sheet-says (omega arith)
 
-  pub whole : ReadAsSaid B wallSheet (write 1 wall) (length (write 1 wall)) wall
-  whole = read-as-said B D wallSheet (write 1 wall) (length (write 1 wall)) wall wall-sheet-says made-wall
+  pub whole : ReadAsSaid B wallSheet (write newest wall) (length (write newest wall)) wall
+  whole = read-as-said B D wallSheet (write newest wall) (length (write newest wall)) wall wall-sheet-says made-wall
 
   pub says-wall : view (wallTable B) ≡ wall
-  says-wall = D .two .sheet .says wallSheet (write 1 wall) (length (write 1 wall)) wall made-wall wall-sheet-says
+  says-wall = D .two .sheet .says wallSheet (write newest wall) (length (write newest wall)) wall made-wall wall-sheet-says
 
   pub fitting : (f : List ℕ) → meets wall f ≡ true → Fitting B (wallTable B) f
   fitting f m = record { passes = whole .passes; fits = ap (λ (c : Content). meets c f) says-wall ∙ m }

@@ -12,7 +12,9 @@ use Rattle.sample.specs.Flat.{sum, before, position}
 use Rattle.model.specs.Samples.{wordCounts, piece, pieces, widthOf}
 use Rattle.model.specs.Wall.{wall}
 use Rattle.framing.specs.Reading.{rawOf, widthIs, valueOf}
-use Rattle.framing.specs.declared.fit.Fit.the-variants.{WrongCount, TooHigh}
+use Rattle.framing.specs.declared.fit.Fit.the-variants.{Refused}
+use Rattle.table.specs.declared.reason.Reason.the-variants.{OtherCount, HighWord}
+use Rattle.table.specs.Reasons.{reasonNumber}
 use Rattle.listed.specs.Decimals.{decimalText, valueText}
 use Rattle.listed.specs.Lines.{rowText}
 use Rattle.listed.specs.Listing.{headingText, sampleRow, parameterRows, refusedText, fitNumber, wordsOf}
@@ -29,9 +31,9 @@ pub record WallRows : Type 0 where
   pub rows : headingText ++ (parameterRows wall (wordsOf file) 0 ++ parameterRows wall (wordsOf file) 1) ≡ listing
   pub refused : refusedText 19 0 ≡ quotedLines ("refused 19 0" ∷ [])
   -- "word count of the frame differs", "any word of the frame at or above two to its bits"
-  pub counted : fitNumber WrongCount ≡ 19
-  pub high : fitNumber TooHigh ≡ 20
+  pub counted : fitNumber (Refused OtherCount) ≡ 19
+  pub high : fitNumber (Refused HighWord) ≡ 20
 
 pub wall-listed : WallRows
-unfolding fitNumber bitAt field signed numAt partOf join width sum before position wordCounts piece pieces widthOf rawOf widthIs valueOf decimalText valueText rowText sampleRow parameterRows refusedText wordsOf
+unfolding fitNumber reasonNumber bitAt field signed numAt partOf join width sum before position wordCounts piece pieces widthOf rawOf widthIs valueOf decimalText valueText rowText sampleRow parameterRows refusedText wordsOf
 wall-listed = record { words = refl; rows = refl; refused = refl; counted = refl; high = refl }

@@ -13,6 +13,7 @@ use Rattle.sample.specs.Component.{Place, Named}
 use Rattle.sample.specs.Joining.{join, width}
 use Rattle.sample.specs.Source.{bitIn}
 use Rattle.model.specs.Content.{Content, parameters, parameter, subframes}
+use Rattle.model.specs.Forms.{newest}
 use Rattle.model.specs.Frame.{frameWords, meets}
 use Rattle.model.specs.Stored.{textPart, textStartIn}
 use Rattle.model.specs.View.{view}
@@ -66,7 +67,7 @@ pub record Fitting (B : Calls) (t f : List ℕ) : Type 0 where
 pub record TooSmall (s l : List ℕ) (q : Refusal) (k : ℕ) : Type 0 where
   pub content : Content
   pub says : Says s content
-  pub short : length l < length (write 1 content)
+  pub short : length l < length (write newest content)
   pub refusal : q ≡ TableTooSmall
   pub unlined : k ≡ 0
 
@@ -123,7 +124,7 @@ pub record One (B : Calls) : Type 0 where
 -- a sheet
 pub record SheetTaken (B : Calls) : Type 0 where
   -- accepted exactly where the sheet says something, and the lent bytes are enough for its table
-  pub taken : (s l : List ℕ) (c : Content) → Says s c → length (write 1 c) ≤ length l → B .make s l ≡ made.Length (length (write 1 c))
+  pub taken : (s l : List ℕ) (c : Content) → Says s c → length (write newest c) ≤ length l → B .make s l ≡ made.Length (length (write newest c))
   pub only : (s l : List ℕ) (n : ℕ) → B .make s l ≡ made.Length n → (c : Content) × Says s c
   pub says : (s l : List ℕ) (n : ℕ) (c : Content) → B .make s l ≡ made.Length n → Says s c → view (take n (B .made s l)) ≡ c
   -- what is left is bytes, each below 256: 583 as one item would be viewed as 71 and 2 are

@@ -11,9 +11,10 @@ use Rattle.model.proofs.Laying.{accepted-laid, parameter-here}
 use Rattle.model.proofs.Views.{parameter-view, name-length}
 use Rattle.table.specs.Answers.{askedNumber, askedMnemonic, askedRefusal, nameAnswered, placeAnswered, Here, AskedHere}
 use Rattle.table.specs.declared.naming.Asked.{Asked}
-use Rattle.table.specs.declared.naming.Asked.the-variants.{Parameter as At, NoTable, NoParameter}
+use Rattle.table.specs.declared.naming.Asked.the-variants.{Parameter as At, Refused}
+use Rattle.table.specs.declared.reason.Reason.{Reason}
 use Rattle.table.proofs.Asking.{number-asked, mnemonic-asked}
-use Rattle.ffi.specs.Structs.{nameOut}
+use Rattle.ffi.specs.Structs.{noNameOut, nameOut}
 use Rattle.ffi.specs.declared.tables.OrbName.{OrbName}
 
 abbrev nameStruct : ℕ → ℕ → ℕ → OrbName
@@ -33,13 +34,9 @@ module _ (b : List ℕ) where
   unfolding nameOut askedRefusal placeAnswered
   named-out a i start long e h p q = rw (e, p, q, answered-long i h)
 
-  pub no-table-out : (a : Asked) → a ≡ NoTable → nameStruct 18 0 0 ≡ nameOut b a
+  pub no-name-out : (a : Asked) (q : Reason) → a ≡ Refused q → noNameOut q ≡ nameOut b a
   unfolding nameOut askedRefusal placeAnswered nameAnswered
-  no-table-out a e = sym (ap (nameOut b) e)
-
-  pub no-parameter-out : (a : Asked) → a ≡ NoParameter → nameStruct 21 0 0 ≡ nameOut b a
-  unfolding nameOut askedRefusal placeAnswered nameAnswered
-  no-parameter-out a e = sym (ap (nameOut b) e)
+  no-name-out a q e = sym (ap (nameOut b) e)
 
   -- ---- the table's bytes at that place are the name
 
@@ -49,8 +46,7 @@ module _ (b : List ℕ) where
 
   answered-there : (a : Asked) → AskedHere b a → part b (nameOut b a .start) (nameOut b a .length) ≡ nameAnswered b a
   answered-there (At i) h = named-there i (h .each i refl)
-  answered-there NoTable h = unfold nameOut placeAnswered nameAnswered in refl
-  answered-there NoParameter h = unfold nameOut placeAnswered nameAnswered in refl
+  answered-there (Refused q) h = unfold nameOut placeAnswered nameAnswered in refl
 
   pub number-there : (p : ℕ) → part b (nameOut b (askedNumber b p) .start) (nameOut b (askedNumber b p) .length) ≡ nameAnswered b (askedNumber b p)
   number-there p = answered-there (askedNumber b p) (number-asked b p)

@@ -15,8 +15,9 @@ use Rattle.model.proofs.Views.{subframes-view}
 use Rattle.framing.specs.Fitting.{fitOf}
 use Rattle.framing.specs.Comparing.{differsIn, comparedIn, fittedCompared, comparedOf}
 use Rattle.framing.specs.declared.fit.Fit.{Fit}
-use Rattle.framing.specs.declared.fit.Fit.the-variants.{Fits, WrongCount, TooHigh}
-use Rattle.framing.specs.declared.compare.Compared.the-variants.{Passes, NoTable, Differs}
+use Rattle.framing.specs.declared.fit.Fit.the-variants.{Fits, Refused}
+use Rattle.framing.specs.declared.compare.Compared.the-variants as answer
+use Rattle.table.specs.declared.reason.Reason.the-variants.{NoTable}
 use Rattle.ffi.specs.Sizes.{SubframeFits}
 
 module _ (b f : List ℕ) where
@@ -24,19 +25,18 @@ module _ (b f : List ℕ) where
   abbrev first : ℕ
   first = find (subframes (view b)) (λ s. differsIn (view b) f (s + 1))
 
-  found : (s : ℕ) (t : Bool) → accepts b ≡ true → ltb first (subframes (view b)) ≡ t → cond t (Differs (first + 1)) Passes ≡ Differs s → s < 4294967296
+  found : (s : ℕ) (t : Bool) → accepts b ≡ true → ltb first (subframes (view b)) ≡ t → cond t (answer.Differs (first + 1)) answer.Passes ≡ answer.Differs s → s < 4294967296
   found s true a t e =
       let h : first + 1 ≡ s = cc in
       omega (arith, h, ltb-true first (subframes (view b)) t, subframes-view b, accepted-laid b a .head .sized .fewSubframes)
   found s false a t e = let z : _≡_ {A = ℕ} 0 1 = cc in absurd (omega arith)
 
-  fitted : (s : ℕ) (d : Fit) → accepts b ≡ true → fittedCompared d (comparedIn (view b) f) ≡ Differs s → s < 4294967296
+  fitted : (s : ℕ) (d : Fit) → accepts b ≡ true → fittedCompared d (comparedIn (view b) f) ≡ answer.Differs s → s < 4294967296
   unfolding fittedCompared comparedIn
   fitted s Fits a e = found s (ltb first (subframes (view b))) a refl e
-  fitted s WrongCount a e = let z : _≡_ {A = ℕ} 0 1 = cc in absurd (omega arith)
-  fitted s TooHigh a e = let z : _≡_ {A = ℕ} 0 1 = cc in absurd (omega arith)
+  fitted s (Refused q) a e = let z : _≡_ {A = ℕ} 0 1 = cc in absurd (omega arith)
 
-  compared : (s : ℕ) (t : Bool) → accepts b ≡ t → cond t (fittedCompared (fitOf (view b) f) (comparedIn (view b) f)) NoTable ≡ Differs s → s < 4294967296
+  compared : (s : ℕ) (t : Bool) → accepts b ≡ t → cond t (fittedCompared (fitOf (view b) f) (comparedIn (view b) f)) (answer.Refused NoTable) ≡ answer.Differs s → s < 4294967296
   compared s true a e = fitted s (fitOf (view b) f) a e
   compared s false a e = let z : _≡_ {A = ℕ} 0 1 = cc in absurd (omega arith)
 

@@ -7,7 +7,9 @@ use Rattle.maker.specs.Made.{madeNumber}
 use Rattle.maker.specs.declared.make.Made.{Made}
 use Rattle.maker.specs.declared.make.Made.the-variants as made
 use Rattle.table.specs.Answers.{askedRefusal, nameAnswered, placeAnswered}
+use Rattle.table.specs.Reasons.{reasonNumber}
 use Rattle.table.specs.declared.naming.Asked.{Asked}
+use Rattle.table.specs.declared.reason.Reason.{Reason}
 use Rattle.framing.specs.Reading.{readNumber}
 use Rattle.framing.specs.Comparing.{comparedNumber}
 use Rattle.framing.specs.declared.read.Reading.{Reading}
@@ -16,7 +18,7 @@ use Rattle.framing.specs.declared.compare.Compared.{Compared}
 use Rattle.framing.specs.declared.compare.Compared.the-variants as compared
 use Rattle.carding.specs.Answer.{cardedNumber}
 use Rattle.carding.specs.declared.carded.Carded.{Carded}
-use Rattle.carding.specs.declared.carded.Carded.the-variants.{Found, NoTable, NoParameters, LongStream, NoFrame, FewWords}
+use Rattle.carding.specs.declared.carded.Carded.the-variants.{Found, Refused}
 use Rattle.ffi.specs.declared.sheets.OrbMade.{OrbMade}
 use Rattle.ffi.specs.declared.tables.OrbName.{OrbName}
 use Rattle.ffi.specs.declared.frames.OrbSample.{OrbSample}
@@ -39,6 +41,9 @@ madeOut m = record { number = madeNumber m; at = madeAt m }
 unfoldable pub nameOut : List ℕ → Asked → OrbName
 nameOut b a = record { number = askedRefusal a; start = placeAnswered b a; length = length (nameAnswered b a) }
 
+abbrev pub noNameOut : Reason → OrbName
+noNameOut r = record { number = reasonNumber r; start = 0; length = 0 }
+
 -- ---- a frame
 
 -- kind 1 is a sample; where refused, all is 0 but the number
@@ -52,9 +57,7 @@ sampleOut (reading.Refused w) =
 unfoldable pub differing : Compared → ℕ
 differing (compared.Differs s) = s
 differing compared.Passes = 0
-differing compared.NoTable = 0
-differing compared.OtherCount = 0
-differing compared.HighWord = 0
+differing (compared.Refused r) = 0
 
 unfoldable pub comparedOut : Compared → OrbCompared
 comparedOut c = record { number = comparedNumber c; subframe = differing c }
@@ -62,13 +65,6 @@ comparedOut c = record { number = comparedNumber c; subframe = differing c }
 -- ---- a card
 
 -- position and words, both 0 where refused
-abbrev pub refusedOut : ℕ → OrbCarded
-refusedOut n = record { number = n; position = 0; count = 0 }
-
 unfoldable pub cardedOut : Carded → OrbCarded
 cardedOut (Found p n) = record { number = cardedNumber (Found p n); position = p; count = n }
-cardedOut NoTable = refusedOut (cardedNumber NoTable)
-cardedOut NoParameters = refusedOut (cardedNumber NoParameters)
-cardedOut LongStream = refusedOut (cardedNumber LongStream)
-cardedOut NoFrame = refusedOut (cardedNumber NoFrame)
-cardedOut FewWords = refusedOut (cardedNumber FewWords)
+cardedOut (Refused r) = record { number = cardedNumber (Refused r); position = 0; count = 0 }

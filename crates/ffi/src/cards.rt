@@ -5,7 +5,7 @@ use bench::cards::card_number;
 use bench::cards::frame_bits;
 use carding::carded::Carded;
 ghost use mathlib.Core.Path.{_≡_};
-ghost use Rattle.ffi.specs.Structs.{cardedOut, refusedOut};
+ghost use Rattle.ffi.specs.Structs.{cardedOut};
 ghost use Rattle.ffi.specs.Promises.{CardsOut, FrameBitsOut};
 
 // The number is 0, `position` the bits before the frame and `count` its words; both are 0 where the card is refused.
@@ -26,21 +26,11 @@ fn carded_out(carded: Carded) -> OrbCarded
             position,
             count,
         },
-        Carded::NoTable => refused(number),
-        Carded::NoParameters => refused(number),
-        Carded::LongStream => refused(number),
-        Carded::NoFrame => refused(number),
-        Carded::FewWords => refused(number),
-    }
-}
-
-fn refused(number: u32) -> OrbCarded
-    ensures { λ r. ⌜ r ≡ refusedOut number ⌝ }
-{
-    OrbCarded {
-        number,
-        position: 0,
-        count: 0,
+        Carded::Refused(_) => OrbCarded {
+            number,
+            position: 0,
+            count: 0,
+        },
     }
 }
 

@@ -65,15 +65,7 @@ fn compared_out(compared: Compared) -> OrbCompared
             number,
             subframe: 0,
         },
-        Compared::NoTable => OrbCompared {
-            number,
-            subframe: 0,
-        },
-        Compared::OtherCount => OrbCompared {
-            number,
-            subframe: 0,
-        },
-        Compared::HighWord => OrbCompared {
+        Compared::Refused(_) => OrbCompared {
             number,
             subframe: 0,
         },

@@ -15,11 +15,13 @@ use Rattle.model.specs.Frame.{frameWords, wordsOk}
 use Rattle.model.specs.Wall.{wall}
 use Rattle.model.specs.Write.{write}
 use Rattle.model.specs.View.{view}
-use Rattle.model.proofs.Built.{view-write}
+use Rattle.model.specs.Forms.{newest}
+use Rattle.model.proofs.Statements.{view-new}
 use Rattle.model.proofs.WallCase.{wall-lawful}
 use Rattle.model.proofs.Statements.{wall-accepted}
 use Rattle.framing.specs.Fitting.{fitOf}
-use Rattle.framing.specs.Wanted.{fitted, wantedIn, wantedOf, wantedNumber}
+use Rattle.framing.specs.Wanted.{fitted, wantedIn, wantedOf}
+use Rattle.table.specs.Reasons.{reasonNumber}
 use Rattle.framing.specs.Reading.{rawOf, widthIs, valueOf, sampleRead, readFor, readOf, readNumber}
 use Rattle.framing.specs.Placing.{placeFor, placeOf, placedFor, placedOf, placeNumber}
 use Rattle.framing.specs.Comparing.{differsAt, differsIn, comparedIn, fittedCompared, comparedOf, comparedNumber}
@@ -45,7 +47,7 @@ pub data Case : Type 0 where
   joins : List ℕ → Subframe → Sample → ℕ → ℕ → Case
 
 abbrev pub table : List ℕ
-table = write 1 wall
+table = write newest wall
 
 abbrev pub Holds : Case → Type 0
 Holds (reads f p s a) = readOf table f p s ≡ a
@@ -106,7 +108,7 @@ cases =
 -- ---- over the wall's Content
 
 said : view table ≡ wall
-said = view-write wall wall-lawful
+said = view-new wall wall-lawful
 
 read-wall : (f : List ℕ) (p s : ℕ) → readOf table f p s ≡ readFor wall f (wantedIn wall f p s)
 unfolding readOf wantedOf
@@ -131,6 +133,6 @@ unfolding comparedOf
 compare-wall f = rw (wall-accepted, said)
 
 pub examples : AllHold cases
-unfolding bitAt field put signed partOf join width placeOne place sum before position wordCounts piece pieces widthOf frameWords wordsOk fitOf fitted wantedIn wantedNumber rawOf widthIs valueOf sampleRead readFor readNumber placeFor placedFor placeNumber differsAt differsIn comparedIn fittedCompared comparedNumber
+unfolding bitAt field put signed partOf join width placeOne place sum before position wordCounts piece pieces widthOf frameWords wordsOk fitOf fitted wantedIn reasonNumber rawOf widthIs valueOf sampleRead readFor readNumber placeFor placedFor placeNumber differsAt differsIn comparedIn fittedCompared comparedNumber
 examples =
     (read-wall _ _ _, (read-wall _ _ _, (read-wall _ _ _, (unread-wall _ _ _, (unread-wall _ _ _, (unread-wall _ _ _, (unread-wall _ _ _, (unread-wall _ _ _, ((place-wall _ _ _ _, placed-wall _ _ _ _), ((unplaced-wall _ _ _ _, placed-wall _ _ _ _), (compare-wall _, ((ap comparedNumber (compare-wall _), compare-wall _), (refl, (refl, (refl, (refl, ((refl, refl), tt)))))))))))))))))

@@ -1,8 +1,8 @@
-// What a comparison answers.
+use table::reason::Reason;
+
+// What a comparison answers; the number of the lowest subframe whose identifier differs.
 pub enum Compared {
     Passes,
-    NoTable,
-    OtherCount,
-    HighWord,
     Differs(usize),
+    Refused(Reason),
 }

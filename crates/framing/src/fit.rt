@@ -1,6 +1,7 @@
+use table::reason::Reason;
+
 // What a frame turns out to be.
 pub enum Fit {
     Fits,
-    WrongCount,
-    TooHigh,
+    Refused(Reason),
 }

@@ -1,8 +1,7 @@
-use super::want::Wanted;
+use table::reason::Reason;
 
 // What a placing answers.
 pub enum Placed {
     Done,
-    Refused(Wanted),
-    TooLarge,
+    Refused(Reason),
 }

@@ -1,9 +1,7 @@
+use table::reason::Reason;
+
 // A listed sample, parameter and sample counted from 0, or why there is none.
 pub enum Wanted {
     Listed(usize, usize),
-    NoTable,
-    NoParameter,
-    NoSample,
-    OtherCount,
-    HighWord,
+    Refused(Reason),
 }

@@ -22,7 +22,7 @@ use Rattle.lineforms.specs.Forms.{dueAfter}
 use Rattle.lineforms.specs.declared.due.Due.{Due}
 use Rattle.lineforms.specs.declared.due.Due.the-variants as due
 use Rattle.model.specs.Content.{Content, parameters, subframes}
-use Rattle.model.specs.Limits.{base}
+use Rattle.model.specs.Forms.{newest, sheetLimits}
 use Rattle.model.specs.Lawful.{lawful}
 use Rattle.model.specs.Identifiers.{identifies, taken, identifiersOk}
 use Rattle.model.specs.Meaning.{IdentifiersLaw}
@@ -30,8 +30,7 @@ use Rattle.model.specs.Write.{write}
 use Rattle.model.specs.View.{view}
 use Rattle.model.specs.Accepts.{accepts}
 use Rattle.model.proofs.Meanings.{lawful-made, identifiers-law}
-use Rattle.model.proofs.Built.{view-write, write-accepted}
-use Rattle.model.proofs.Statements.{one-content}
+use Rattle.model.proofs.Statements.{view-new, new-accepted, one-content}
 use Rattle.gather.specs.Book.{Book, emptyBook, grow, contentOf}
 use Rattle.gather.specs.Tests.{testsOf}
 use Rattle.gather.specs.Ruling.{Accepted, Refused, firstBad, identified, atEnd, formAt, opens, onJudged, run, longestSheet, judgeOf}
@@ -78,12 +77,12 @@ identified-accepted c os d e =
 
 -- ---- the end of the sheet
 
-between-lawful : (K : Book) → Between K → (parameters (contentOf K) ≡ 0) ⊎ IdentifiersLaw (contentOf K) → lawful base (contentOf K) ≡ true
+between-lawful : (K : Book) → Between K → (parameters (contentOf K) ≡ 0) ⊎ IdentifiersLaw (contentOf K) → lawful sheetLimits (contentOf K) ≡ true
 between-lawful K h i =
     let g = h .ground in
     let s = samples-counted (contentOf K) in
     let c = components-counted (contentOf K) in
-    lawful-made base (contentOf K)
+    lawful-made sheetLimits (contentOf K)
     (record {
       someSubframes = omega (arith, g .some, g .long);
       fewSubframes = omega (arith, g .few, g .long);
@@ -96,7 +95,7 @@ between-lawful K h i =
       identifiers = i;
     })
 
-end-lawful : (K : Book) (os : List ℕ) (c : Content) → Between K → identified (contentOf K) os ≡ Accepted c → lawful base c ≡ true
+end-lawful : (K : Book) (os : List ℕ) (c : Content) → Between K → identified (contentOf K) os ≡ Accepted c → lawful sheetLimits c ≡ true
 end-lawful K os c h e =
     let r = identified-accepted (contentOf K) os c e in
     rw (r .same) (between-lawful K h (r .obeys))
@@ -121,13 +120,13 @@ at-end-only due.AfterSourceBlank K os k c P p q e = never Unended k c e
 at-end-only due.NextParameter K os k c P p q e = p e
 at-end-only due.Nothing K os k c P p q e = q e
 
-at-end-lawful : (d : Due) (K : Book) (os : List ℕ) (k : ℕ) (c : Content) → Sound d K → atEnd d K os k ≡ Accepted c → lawful base c ≡ true
+at-end-lawful : (d : Due) (K : Book) (os : List ℕ) (k : ℕ) (c : Content) → Sound d K → atEnd d K os k ≡ Accepted c → lawful sheetLimits c ≡ true
 at-end-lawful d K os k c h e =
-    at-end-only d K os k c (λ f. Sound f K → lawful base c ≡ true) (λ r g. end-lawful K os c g r) (λ r g. end-lawful K os c g r) e h
+    at-end-only d K os k c (λ f. Sound f K → lawful sheetLimits c ≡ true) (λ r g. end-lawful K os c g r) (λ r g. end-lawful K os c g r) e h
 
 -- ---- the lines
 
-pub run-lawful : (d : Due) (K : Book) (os : List ℕ) (k : ℕ) (ls : Lines) (c : Content) → Sound d K → run d K os k ls ≡ Accepted c → lawful base c ≡ true
+pub run-lawful : (d : Due) (K : Book) (os : List ℕ) (k : ℕ) (ls : Lines) (c : Content) → Sound d K → run d K os k ls ≡ Accepted c → lawful sheetLimits c ≡ true
 unfolding run
 run-lawful d K os k noLines c h e = at-end-lawful d K os (k + 1) c h e
 run-lawful d K os k (unended l) c h e = never Unended (k + 1) c (sym (unended-run d K os k l) ∙ e)
@@ -137,29 +136,29 @@ run-lawful d K os k (line l ls) c h e =
     e
   where
     go : (j : Judged) → lineJudged true l (testsOf (formAt d K l) K l) ≡ j
-        → (Sound (dueAfter (formAt d K l)) (grow (formAt d K l) l K) → run (dueAfter (formAt d K l)) (grow (formAt d K l) l K) (opens (formAt d K l) (k + 1) os) (k + 1) ls ≡ Accepted c → lawful base c ≡ true)
+        → (Sound (dueAfter (formAt d K l)) (grow (formAt d K l) l K) → run (dueAfter (formAt d K l)) (grow (formAt d K l) l K) (opens (formAt d K l) (k + 1) os) (k + 1) ls ≡ Accepted c → lawful sheetLimits c ≡ true)
         → onJudged j (k + 1) (run (dueAfter (formAt d K l)) (grow (formAt d K l) l K) (opens (formAt d K l) (k + 1) os) (k + 1) ls) ≡ Accepted c
-        → lawful base c ≡ true
+        → lawful sheetLimits c ≡ true
     go judged.Passes p ih q = ih (sound-step d K l h p) q
     go (judged.Refused r) p ih q = never r (k + 1) c q
 
 -- ---- the sheet
 
-pub accepted-lawful : (s : List ℕ) (c : Content) → judgeOf s ≡ Accepted c → lawful base c ≡ true
+pub accepted-lawful : (s : List ℕ) (c : Content) → judgeOf s ≡ Accepted c → lawful sheetLimits c ≡ true
 unfolding judgeOf
 accepted-lawful s c e = go (ltb longestSheet (length s)) e
   where
-    go : (t : Bool) → cond t (Refused SheetTooLong 0) (run due.HeaderWord emptyBook [] 0 (linesOf s)) ≡ Accepted c → lawful base c ≡ true
+    go : (t : Bool) → cond t (Refused SheetTooLong 0) (run due.HeaderWord emptyBook [] 0 (linesOf s)) ≡ Accepted c → lawful sheetLimits c ≡ true
     go true q = never SheetTooLong 0 c q
     go false q = run-lawful due.HeaderWord emptyBook [] 0 (linesOf s) c (record { noPairs = refl; noParameters = refl; noParts = refl }) q
 
 -- the table written of it is accepted, and says it
-pub accepted-table : (s : List ℕ) (c : Content) → judgeOf s ≡ Accepted c → accepts (write 1 c) ≡ true
-accepted-table s c e = write-accepted c (accepted-lawful s c e)
+pub accepted-table : (s : List ℕ) (c : Content) → judgeOf s ≡ Accepted c → accepts (write newest c) ≡ true
+accepted-table s c e = new-accepted c (accepted-lawful s c e)
 
-pub accepted-view : (s : List ℕ) (c : Content) → judgeOf s ≡ Accepted c → view (write 1 c) ≡ c
-accepted-view s c e = view-write c (accepted-lawful s c e)
+pub accepted-view : (s : List ℕ) (c : Content) → judgeOf s ≡ Accepted c → view (write newest c) ≡ c
+accepted-view s c e = view-new c (accepted-lawful s c e)
 
 -- two sheets with one table say one Content
-pub accepted-one : (s t : List ℕ) (c d : Content) → judgeOf s ≡ Accepted c → judgeOf t ≡ Accepted d → write 1 c ≡ write 1 d → c ≡ d
+pub accepted-one : (s t : List ℕ) (c d : Content) → judgeOf s ≡ Accepted c → judgeOf t ≡ Accepted d → write newest c ≡ write newest d → c ≡ d
 accepted-one s t c d e f = one-content c d (accepted-lawful s c e) (accepted-lawful t d f)

@@ -28,7 +28,7 @@ use Rattle.written.proofs.SecondsValue.{seconds-value}
 use Rattle.lineforms.specs.LineFields.{rangeJudged}
 use Rattle.lineforms.specs.Said.{numeratorOf, denominatorOf, lowOf, highOf}
 use Rattle.lineforms.proofs.Judging.{integer-same}
-use Rattle.model.specs.Limits.{base}
+use Rattle.model.specs.Forms.{sheetLimits}
 use Rattle.model.specs.Meaning.{SecondsLaw}
 
 -- ---- integers
@@ -59,7 +59,7 @@ module _ (f : List ℕ) where
 
 -- ---- times
 
-time-small : (f : List ℕ) (v : ℕ) → IsDecimal 3 f v → v ≤ 999999999
+time-small : (f : List ℕ) (v : ℕ) → IsDecimal 3 f v → v ≤ sheetLimits .time
 time-small f v (inl w) =
     let b : number 10 f < 1000 = number-below 10 3 f (omega arith) (w .digits) in
     omega (arith, w .value)
@@ -67,7 +67,7 @@ time-small f v (inr p) =
     let b : number 10 (p .before) < 1000 = number-below 10 3 (p .before) (omega arith) (p .digits .left) in
     omega (arith, p .value, millionths-below (p .after) (p .digits .right))
 
-pub time-amount : (f : List ℕ) → decimalJudged 3 f ≡ Passes → amountOf (decimalOf 3 f) ≤ 999999999
+pub time-amount : (f : List ℕ) → decimalJudged 3 f ≡ Passes → amountOf (decimalOf 3 f) ≤ sheetLimits .time
 time-amount f e =
     let r = decimal-judged f 3 .0 e in
     let s : decimalOf 3 f ≡ Value (r .0) = decimal-exactly 3 f (r .0) .1 (r .1) in
@@ -90,7 +90,7 @@ bits-amount f count e =
 
 -- ---- seconds
 
-pub seconds-amount : (f : List ℕ) → secondsJudged f ≡ Passes → SecondsLaw base (numeratorOf (secondsOf f)) (denominatorOf (secondsOf f))
+pub seconds-amount : (f : List ℕ) → secondsJudged f ≡ Passes → SecondsLaw sheetLimits (numeratorOf (secondsOf f)) (denominatorOf (secondsOf f))
 seconds-amount f e =
     let n = lowestTerms (topOf f) (bottomOf f) .numerator in
     let d = lowestTerms (topOf f) (bottomOf f) .denominator in
@@ -100,7 +100,11 @@ seconds-amount f e =
 
 -- ---- an identifier's value, else 0
 
-pub value-amount : (identifier : Bool) (f : List ℕ) → rangeJudged identifier f ≡ Passes → (identifier ≡ false → cond identifier (amountOf (integerOf 10 0 4294967295 f)) 0 ≡ 0) × (cond identifier (amountOf (integerOf 10 0 4294967295 f)) 0 ≤ 4294967295)
+abbrev valued : Bool → List ℕ → ℕ
+valued identifier f = cond identifier (amountOf (integerOf 10 0 (sheetLimits .value) f)) 0
+
+pub value-amount : (identifier : Bool) (f : List ℕ) → rangeJudged identifier f ≡ Passes
+    → (identifier ≡ false → valued identifier f ≡ 0) × (valued identifier f ≤ sheetLimits .value)
 unfolding rangeJudged
-value-amount true f e = (λ q. absurd (let z : _≡_ {A = ℕ} 0 1 = cc in omega arith), integer-amount f 10 0 4294967295 e .1)
+value-amount true f e = (λ q. absurd (let z : _≡_ {A = ℕ} 0 1 = cc in omega arith), integer-amount f 10 0 (sheetLimits .value) e .1)
 value-amount false f e = (λ q. refl, omega arith)

@@ -12,7 +12,7 @@ use Rattle.text.specs.declared.refusal.Judged.the-variants.{Passes}
 use Rattle.lines.specs.Order.{lineJudged}
 use Rattle.lineforms.specs.declared.due.Form.the-variants as form
 use Rattle.model.specs.Content.{Parameter, noParameter}
-use Rattle.model.specs.Limits.{base}
+use Rattle.model.specs.Forms.{sheetLimits}
 use Rattle.model.specs.Meaning.{ParameterLaw, NamedApart}
 use Rattle.gather.specs.Book.{Book, grow}
 use Rattle.gather.specs.Tests.{testsOf}
@@ -71,7 +71,7 @@ module _ (K : Book) (l : List ℕ) (h : Filled K) where
 
 -- ---- the whole parameter
 
-opened-law : (K : Book) → Filled K → ParameterLaw base (subsOf K) (K .opened)
+opened-law : (K : Book) → Filled K → ParameterLaw sheetLimits (subsOf K) (K .opened)
 opened-law K h =
     let o = h .closed .opened in
     record {
@@ -120,7 +120,7 @@ ends-parameter K l h =
       whole =
           record {
             few = omega arith;
-            each = each-more (ParameterLaw base (subsOf K)) noParameter (K .parameters) (K .opened) (o .whole .each) (opened-law K h);
+            each = each-more (ParameterLaw sheetLimits (subsOf K)) noParameter (K .parameters) (K .opened) (o .whole .each) (opened-law K h);
             apart =
                 apart-more (K .parameters) (K .opened)
                 (λ k m.

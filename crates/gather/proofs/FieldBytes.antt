@@ -15,11 +15,11 @@ use Rattle.text.specs.Fields.{comma, pieceOf, fieldOf}
 use Rattle.text.specs.declared.refusal.Judged.the-variants.{Passes}
 use Rattle.text.proofs.Trims.{start-drop, end-take}
 use Rattle.text.proofs.Places.{pastOf, piece-past}
-use Rattle.spell.specs.Texts.{longestName, textJudged}
+use Rattle.spell.specs.Texts.{textJudged}
 use Rattle.written.proofs.Marks.{upTo-without}
 use Rattle.written.proofs.Texts.{text-exactly}
 use Rattle.lines.specs.Line.{isClean, allClean}
-use Rattle.model.specs.Limits.{base}
+use Rattle.model.specs.Forms.{sheetLimits}
 use Rattle.model.specs.Meaning.{ByteLaw, TextLaw}
 use Rattle.gather.proofs.Rows.{Each, each-take, each-drop}
 
@@ -116,9 +116,10 @@ clean-byte x h t c =
     (λ e. record { least = leb-true _ _ (and-0 (leb 32 x) (leb x 126) e); most = leb-true _ _ (and-1 (leb 32 x) (leb x 126) e); comma = c })
     (or-either (eqb x 9) (leb 32 x && leb x 126) h)
 
-pub field-text : (k : ℕ) (l : List ℕ) (mandatory : Bool) → allClean l ≡ true → textJudged longestName mandatory (fieldOf k l) ≡ Passes → TextLaw base (fieldOf k l)
+pub field-text : (k : ℕ) (l : List ℕ) (mandatory : Bool) → allClean l ≡ true
+    → textJudged (sheetLimits .text) mandatory (fieldOf k l) ≡ Passes → TextLaw sheetLimits (fieldOf k l)
 field-text k l mandatory c e =
-    let r = text-exactly longestName mandatory (fieldOf k l) .0 e .0 in
+    let r = text-exactly (sheetLimits .text) mandatory (fieldOf k l) .0 e .0 in
     record {
       short = r .short;
       each = λ i m.
@@ -127,5 +128,5 @@ field-text k l mandatory c e =
       ends = field-last k l;
     }
 
-pub field-some : (k : ℕ) (l : List ℕ) → textJudged longestName true (fieldOf k l) ≡ Passes → 1 ≤ length (fieldOf k l)
-field-some k l e = text-exactly longestName true (fieldOf k l) .0 e .1 refl
+pub field-some : (k : ℕ) (l : List ℕ) → textJudged (sheetLimits .text) true (fieldOf k l) ≡ Passes → 1 ≤ length (fieldOf k l)
+field-some k l e = text-exactly (sheetLimits .text) true (fieldOf k l) .0 e .1 refl

@@ -17,7 +17,7 @@ use Rattle.lines.proofs.Orders.{first-none}
 use Rattle.lineforms.specs.declared.due.Form.{Form}
 use Rattle.lineforms.specs.declared.due.Form.the-variants as form
 use Rattle.model.specs.Content.{Parameter, noSubframe, noParameter, noSample}
-use Rattle.model.specs.Limits.{base}
+use Rattle.model.specs.Forms.{sheetLimits}
 use Rattle.model.specs.Identifiers.{namedApart}
 use Rattle.model.specs.Samples.{widthOf}
 use Rattle.model.specs.Meaning.{SubframeLaw, SampleLaw, NamedApart}
@@ -39,28 +39,28 @@ module _ (K : Book) (l : List ℕ) where
   pub heads : Fresh K → lineJudged true l (testsOf form.HeaderLine K l) ≡ Passes → Headed (grow form.HeaderLine l K)
   heads h e =
       let q = passed form.HeaderLine K l e in
-      let s = integer-amount (fieldOf 11 l) 6 1 32 (q 16) in
+      let s = integer-amount (fieldOf 11 l) 6 1 (sheetLimits .subframes) (q 16) in
       record {
         some = s .0;
         few = s .1;
-        each = each-none (SubframeLaw base) noSubframe (K .pairs) (h .noPairs);
+        each = each-none (SubframeLaw sheetLimits) noSubframe (K .pairs) (h .noPairs);
         noParameters = h .noParameters;
         noParts = h .noParts;
       }
 
   -- a record pair's line
-  pair-law : lineJudged true l (testsOf form.RecordLine K l) ≡ Passes → SubframeLaw base (subframeOf l)
+  pair-law : lineJudged true l (testsOf form.RecordLine K l) ≡ Passes → SubframeLaw sheetLimits (subframeOf l)
   pair-law e =
       let q = passed form.RecordLine K l e in
-      let b = integer-amount (fieldOf 0 l) 6 1 16 (q 5) in
-      let w = integer-amount (fieldOf 1 l) 6 1 1024 (q 6) in
+      let b = integer-amount (fieldOf 0 l) 6 1 (sheetLimits .bits) (q 5) in
+      let w = integer-amount (fieldOf 1 l) 6 1 (sheetLimits .words) (q 6) in
       record {
         someBits = b .0;
         fewBits = b .1;
         someWords = w .0;
         fewWords = w .1;
-        leading = margin-amount (fieldOf 2 l) 4095 (q 7);
-        trailing = margin-amount (fieldOf 3 l) 4095 (q 8);
+        leading = margin-amount (fieldOf 2 l) (sheetLimits .margin) (q 7);
+        trailing = margin-amount (fieldOf 3 l) (sheetLimits .margin) (q 8);
         seconds = seconds-amount (fieldOf 4 l) (q 9);
       }
 
@@ -69,15 +69,15 @@ module _ (K : Book) (l : List ℕ) where
       record {
         some = h .some;
         few = h .few;
-        each = each-more (SubframeLaw base) noSubframe (K .pairs) (subframeOf l) (h .each) (pair-law e);
+        each = each-more (SubframeLaw sheetLimits) noSubframe (K .pairs) (subframeOf l) (h .each) (pair-law e);
         noParameters = h .noParameters;
         noParts = h .noParts;
       }
 
   -- 12 on the line that opens a parameter
-  room-parameter : roomForParameter K ≡ Passes → length (K .parameters) < 512
+  room-parameter : roomForParameter K ≡ Passes → length (K .parameters) < sheetLimits .parameters
   unfolding roomForParameter
-  room-parameter e = leb-false 512 (length (K .parameters)) (when-false _ _ e)
+  room-parameter e = leb-false (sheetLimits .parameters) (length (K .parameters)) (when-false _ _ e)
 
   pub opens-parameter : Between K → lineJudged true l (testsOf form.ParameterWord K l) ≡ Passes → Named (grow form.ParameterWord l K)
   opens-parameter h e = record { between = h; room = room-parameter (passed form.ParameterWord K l e 4) }
@@ -119,7 +119,7 @@ module _ (K : Book) (l : List ℕ) where
               samples =
                   record {
                     few = omega arith;
-                    each = each-none (SampleLaw base (subsOf K)) noSample [] refl;
+                    each = each-none (SampleLaw sheetLimits (subsOf K)) noSample [] refl;
                     alike = each-none (λ s. widthOf (subsOf K) s ≡ widthOf (subsOf K) noSample) noSample [] refl;
                   };
               fewSamples = omega (arith, b .fewSamples);

@@ -31,7 +31,7 @@ use Rattle.lineforms.proofs.Judging.{integer-same}
 use Rattle.lineforms.specs.declared.due.Form.{Form}
 use Rattle.lineforms.specs.declared.due.Form.the-variants.{Stray, Superframe, HeaderWord, HeaderLine, RecordWord, RecordLine, NoneWord, ParameterWord, NameLine, OpeningComponent, ComponentLine, TimeLine, SamplesEnd, SignedLine, RangeLine, SourceLine, LabelLine, SourceEnd, ParameterEnd}
 use Rattle.model.specs.Content.{Sample, Component}
-use Rattle.model.specs.Limits.{base}
+use Rattle.model.specs.Forms.{sheetLimits}
 use Rattle.gather.specs.Book.{Book, namedOf, samplesSoFar, componentsSoFar}
 use Rattle.gather.specs.Tests.{roomForParameter, roomForSample, roomForComponent, spots, joinedTest, widthTest, apartFrom, testsOf}
 use Rattle.gather.proofs.Stages.{Stage, formIn, testsIn}
@@ -169,32 +169,32 @@ seconds-fair f =
 
 range-fair : (t : Bool) (f : List ℕ) → Fair (rangeJudged t f)
 unfolding rangeJudged
-range-fair true f = integer-fair 10 0 4294967295 f
+range-fair true f = integer-fair 10 0 (sheetLimits .value) f
 range-fair false f = text-fair 200 false f
 
 -- ---- the tests of a line
 
 parameter-fair : (K : Book) → Fair (roomForParameter K)
 unfolding roomForParameter
-parameter-fair K = fair-when (leb (base .parameters) (length (K .parameters))) TooMany refl
+parameter-fair K = fair-when (leb (sheetLimits .parameters) (length (K .parameters))) TooMany refl
 
 sample-fair : (K : Book) → Fair (roomForSample K)
 unfolding roomForSample
 sample-fair K =
     fair-when
-    (leb (base .samplesEach) (length (K .opened .samples))
-    || (leb (base .samples) (samplesSoFar K) || leb (base .components) (componentsSoFar K)))
+    (leb (sheetLimits .samplesEach) (length (K .opened .samples))
+    || (leb (sheetLimits .samples) (samplesSoFar K) || leb (sheetLimits .components) (componentsSoFar K)))
     TooMany
     refl
 
 component-fair : (K : Book) → Fair (roomForComponent K)
 unfolding roomForComponent
 component-fair K =
-    fair-when (leb (base .componentsEach) (length (K .parts)) || leb (base .components) (componentsSoFar K)) TooMany refl
+    fair-when (leb (sheetLimits .componentsEach) (length (K .parts)) || leb (sheetLimits .components) (componentsSoFar K)) TooMany refl
 
 joined-fair : (cs : List Component) → Fair (joinedTest cs)
 unfolding joinedTest
-joined-fair cs = fair-when (twice (spots cs) || ltb (base .width) (width (spots cs))) BadSample refl
+joined-fair cs = fair-when (twice (spots cs) || ltb (sheetLimits .width) (width (spots cs))) BadSample refl
 
 width-fair : (ss : List Sample) (cs : List Component) → Fair (widthTest ss cs)
 unfolding widthTest

@@ -20,7 +20,7 @@ use Rattle.lineforms.specs.LineFields.{declaredFor, subframeIn}
 use Rattle.lineforms.specs.Said.{timeIn}
 use Rattle.lineforms.specs.declared.due.Form.the-variants as form
 use Rattle.model.specs.Content.{Component, Sample, Subframe, noSample, noComponent}
-use Rattle.model.specs.Limits.{base}
+use Rattle.model.specs.Forms.{sheetLimits}
 use Rattle.model.specs.Samples.{widthOf}
 use Rattle.model.specs.Meaning.{ComponentLaw, SampleLaw}
 use Rattle.gather.specs.Book.{Book, componentOf, parting, samplesSoFar, componentsSoFar, wordsOf, bitsOf, grow}
@@ -57,32 +57,38 @@ module _ (K : Book) (l : List ℕ) (g : Ground (K .declared) (subsOf K)) where
       }
 
 -- 14 at the component that does it
-joined-passed : (cs : List Component) → joinedTest cs ≡ Passes → (twice (spots cs) ≡ false) × (width (spots cs) ≤ 32)
+joined-passed : (cs : List Component) → joinedTest cs ≡ Passes → (twice (spots cs) ≡ false) × (width (spots cs) ≤ sheetLimits .width)
 unfolding joinedTest
 joined-passed cs e =
-    let w = neither (twice (spots cs)) (ltb (base .width) (width (spots cs))) (when-false _ _ e) in
-    (w .0, ltb-false 32 (width (spots cs)) (w .1))
+    let w = neither (twice (spots cs)) (ltb (sheetLimits .width) (width (spots cs))) (when-false _ _ e) in
+    (w .0, ltb-false (sheetLimits .width) (width (spots cs)) (w .1))
 
 -- 12
-sample-room : (K : Book) → roomForSample K ≡ Passes → (length (K .opened .samples) < 64) × (samplesSoFar K < 4096) × (componentsSoFar K < 4096)
+sample-room : (K : Book) → roomForSample K ≡ Passes
+    → (length (K .opened .samples) < sheetLimits .samplesEach) × (samplesSoFar K < sheetLimits .samples) × (componentsSoFar K < sheetLimits .components)
 unfolding roomForSample
 sample-room K e =
-    let a = leb 64 (length (K .opened .samples)) in
-    let b = leb 4096 (samplesSoFar K) in
-    let c = leb 4096 (componentsSoFar K) in
+    let a = leb (sheetLimits .samplesEach) (length (K .opened .samples)) in
+    let b = leb (sheetLimits .samples) (samplesSoFar K) in
+    let c = leb (sheetLimits .components) (componentsSoFar K) in
     let w = neither a (b || c) (when-false _ _ e) in
-    let v = neither b c (w .1) in
-    (leb-false 64 (length (K .opened .samples)) (w .0), leb-false 4096 (samplesSoFar K) (v .0), leb-false 4096 (componentsSoFar K) (v .1))
+    let v = neither b c (w .1) in (
+      leb-false (sheetLimits .samplesEach) (length (K .opened .samples)) (w .0),
+      leb-false (sheetLimits .samples) (samplesSoFar K) (v .0),
+      leb-false (sheetLimits .components) (componentsSoFar K) (v .1),
+    )
 
-component-room : (K : Book) → roomForComponent K ≡ Passes → (length (K .parts) < 8) × (componentsSoFar K < 4096)
+component-room : (K : Book) → roomForComponent K ≡ Passes
+    → (length (K .parts) < sheetLimits .componentsEach) × (componentsSoFar K < sheetLimits .components)
 unfolding roomForComponent
 component-room K e =
-    let w = neither (leb 8 (length (K .parts))) (leb 4096 (componentsSoFar K)) (when-false _ _ e) in
-    (leb-false 8 (length (K .parts)) (w .0), leb-false 4096 (componentsSoFar K) (w .1))
+    let w = neither (leb (sheetLimits .componentsEach) (length (K .parts))) (leb (sheetLimits .components) (componentsSoFar K)) (when-false _ _ e) in
+    (leb-false (sheetLimits .componentsEach) (length (K .parts)) (w .0), leb-false (sheetLimits .components) (componentsSoFar K) (w .1))
 
 -- one component more
 module _ (K : Book) (c : Component) (o : Opened K) (each : Each (ComponentLaw (subsOf K)) noComponent (K .parts)) where
-  part-more : length (K .parts) < 8 → length (K .opened .samples) < 64 → samplesSoFar K < 4096 → componentsSoFar K < 4096
+  part-more : length (K .parts) < sheetLimits .componentsEach → length (K .opened .samples) < sheetLimits .samplesEach
+      → samplesSoFar K < sheetLimits .samples → componentsSoFar K < sheetLimits .components
       → ComponentLaw (subsOf K) c → joinedTest (K .parts ++ (c ∷ [])) ≡ Passes → Joined (parting K (K .parts ++ (c ∷ [])))
   part-more few a b d law j =
       let n = length-more (K .parts) c in
@@ -150,7 +156,7 @@ module _ (K : Book) (l : List ℕ) where
   abbrev timed : Sample
   timed = record { time = timeIn l; components = K .parts }
 
-  timed-law : Joined K → timeIn l ≤ 999999999 → SampleLaw base (subsOf K) timed
+  timed-law : Joined K → timeIn l ≤ sheetLimits .time → SampleLaw sheetLimits (subsOf K) timed
   timed-law h t =
       let p = h .parted in
       let g = h .opened .ground in
@@ -184,7 +190,7 @@ module _ (K : Book) (l : List ℕ) where
                         record {
                           few = omega arith;
                           each =
-                              each-more (SampleLaw base (subsOf K)) noSample (K .opened .samples) timed (o .samples .each)
+                              each-more (SampleLaw sheetLimits (subsOf K)) noSample (K .opened .samples) timed (o .samples .each)
                               (timed-law h (time-amount (fieldOf 0 l) (q 5)));
                           alike = alike-more (subsOf K) timed (K .opened .samples) (o .samples .alike) (q 6);
                         };

@@ -11,7 +11,7 @@ use Rattle.lineforms.specs.declared.due.Due.the-variants as due
 use Rattle.lineforms.specs.declared.due.Form.{Form}
 use Rattle.lineforms.specs.declared.due.Form.the-variants as form
 use Rattle.model.specs.Content.{Parameter, Sample, Subframe, noSubframe, noParameter, noSample, noComponent}
-use Rattle.model.specs.Limits.{base}
+use Rattle.model.specs.Forms.{sheetLimits}
 use Rattle.model.specs.Samples.{widthOf}
 use Rattle.model.specs.Meaning.{SubframeLaw, ComponentLaw, SampleLaw, TextLaw, ParameterLaw, NamedApart}
 use Rattle.gather.specs.Book.{Book, spread, samplesOf, allComponentsOf, samplesSoFar, componentsSoFar}
@@ -31,8 +31,8 @@ pub record Fresh (K : Book) : Type 0 where
 
 pub record Headed (K : Book) : Type 0 where
   pub some : 1 ≤ K .declared
-  pub few : K .declared ≤ 32
-  pub each : Each (SubframeLaw base) noSubframe (K .pairs)
+  pub few : K .declared ≤ sheetLimits .subframes
+  pub each : Each (SubframeLaw sheetLimits) noSubframe (K .pairs)
   pub noParameters : K .parameters ≡ []
   pub noParts : K .parts ≡ []
 
@@ -41,22 +41,22 @@ pub record Headed (K : Book) : Type 0 where
 -- s subframes, each within its limits
 pub record Ground (s : ℕ) (subs : List Subframe) : Type 0 where
   pub some : 1 ≤ s
-  pub few : s ≤ 32
+  pub few : s ≤ sheetLimits .subframes
   pub long : length subs ≡ s
-  pub each : Each (SubframeLaw base) noSubframe subs
+  pub each : Each (SubframeLaw sheetLimits) noSubframe subs
 
 -- whole parameters
 pub record Whole (subs : List Subframe) (ps : List Parameter) : Type 0 where
-  pub few : length ps ≤ 512
-  pub each : Each (ParameterLaw base subs) noParameter ps
+  pub few : length ps ≤ sheetLimits .parameters
+  pub each : Each (ParameterLaw sheetLimits subs) noParameter ps
   pub apart : (i k : ℕ) → i < length ps → k < i → NamedApart (getD ps k noParameter) (getD ps i noParameter)
 
 pub record Between (K : Book) : Type 0 where
   pub ground : Ground (K .declared) (subsOf K)
   pub whole : Whole (subsOf K) (K .parameters)
   pub noParts : K .parts ≡ []
-  pub fewSamples : samplesOf (K .parameters) ≤ 4096
-  pub fewComponents : allComponentsOf (K .parameters) ≤ 4096
+  pub fewSamples : samplesOf (K .parameters) ≤ sheetLimits .samples
+  pub fewComponents : allComponentsOf (K .parameters) ≤ sheetLimits .components
 
 -- ---- in a parameter
 
@@ -67,40 +67,40 @@ texted a b c =
 
 pub record Names (ps : List Parameter) (a b c : List ℕ) : Type 0 where
   pub named : 1 ≤ length a
-  pub name : TextLaw base a
-  pub mnemonic : TextLaw base b
-  pub identification : TextLaw base c
+  pub name : TextLaw sheetLimits a
+  pub mnemonic : TextLaw sheetLimits b
+  pub identification : TextLaw sheetLimits c
   pub apart : Each (λ p. NamedApart p (texted a b c)) noParameter ps
 
 pub record Valued (identifier : Bool) (value : ℕ) : Type 0 where
   pub plain : identifier ≡ false → value ≡ 0
-  pub few : value ≤ 4294967295
+  pub few : value ≤ sheetLimits .value
 
 -- whole samples, of one width
 pub record Sampled (subs : List Subframe) (ss : List Sample) : Type 0 where
-  pub few : length ss ≤ 64
-  pub each : Each (SampleLaw base subs) noSample ss
+  pub few : length ss ≤ sheetLimits .samplesEach
+  pub each : Each (SampleLaw sheetLimits subs) noSample ss
   pub alike : Each (λ s. widthOf subs s ≡ widthOf subs (getD ss 0 noSample)) noSample ss
 
 pub record Opened (K : Book) : Type 0 where
   pub ground : Ground (K .declared) (subsOf K)
   pub whole : Whole (subsOf K) (K .parameters)
-  pub room : length (K .parameters) < 512
+  pub room : length (K .parameters) < sheetLimits .parameters
   pub names : Names (K .parameters) (K .opened .name) (K .opened .mnemonic) (K .opened .identification)
   pub value : Valued (K .opened .identifier) (K .opened .value)
   pub samples : Sampled (subsOf K) (K .opened .samples)
-  pub fewSamples : samplesSoFar K ≤ 4096
-  pub fewComponents : componentsSoFar K ≤ 4096
+  pub fewSamples : samplesSoFar K ≤ sheetLimits .samples
+  pub fewComponents : componentsSoFar K ≤ sheetLimits .components
 
 -- a sample is open, and there is room for it
 pub record Parted (K : Book) : Type 0 where
   pub some : 1 ≤ length (K .parts)
-  pub few : length (K .parts) ≤ 8
+  pub few : length (K .parts) ≤ sheetLimits .componentsEach
   pub each : Each (ComponentLaw (subsOf K)) noComponent (K .parts)
   pub once : twice (spots (K .parts)) ≡ false
-  pub narrow : width (spots (K .parts)) ≤ 32
-  pub roomEach : length (K .opened .samples) < 64
-  pub room : samplesSoFar K < 4096
+  pub narrow : width (spots (K .parts)) ≤ sheetLimits .width
+  pub roomEach : length (K .opened .samples) < sheetLimits .samplesEach
+  pub room : samplesSoFar K < sheetLimits .samples
 
 -- no sample is open
 pub record Closed (K : Book) : Type 0 where
@@ -114,7 +114,7 @@ pub record Filled (K : Book) : Type 0 where
 
 pub record Named (K : Book) : Type 0 where
   pub between : Between K
-  pub room : length (K .parameters) < 512
+  pub room : length (K .parameters) < sheetLimits .parameters
 
 pub record Joined (K : Book) : Type 0 where
   pub opened : Opened K

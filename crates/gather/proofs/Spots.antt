@@ -15,10 +15,11 @@ use Rattle.sample.specs.Clash.{clash, clashAny, twice}
 use Rattle.sample.specs.Joining.{width}
 use Rattle.sample.specs.Flat.{position}
 use Rattle.model.specs.Content.{Component, Sample, Subframe, noComponent, noSubframe}
+use Rattle.model.specs.Forms.{sheetLimits}
 use Rattle.model.specs.Samples.{wordCounts, piece, pieces, widthOf}
 use Rattle.model.specs.Meaning.{ComponentLaw}
 use Rattle.model.proofs.Pieces.{component-at-bit}
-use Rattle.gather.specs.Tests.{spot, spots}
+use Rattle.gather.specs.Tests.{wordSpan, spot, spots}
 use Rattle.gather.proofs.Rows.{Each, tab-front}
 
 module _ (subs : List Subframe) where
@@ -50,9 +51,9 @@ module _ (subs : List Subframe) where
 
   -- ---- a bit twice
 
-  -- every word is at most 1,024
-  module _ (small : Each (λ f. f .words ≤ 1024) noSubframe subs) where
-    word-small : (c : Component) → ComponentLaw subs c → c .word ≤ 1024
+  -- every word is within its limit
+  module _ (small : Each (λ f. f .words ≤ sheetLimits .words) noSubframe subs) where
+    word-small : (c : Component) → ComponentLaw subs c → c .word ≤ sheetLimits .words
     word-small c r = let h = small (c .subframe - 1) (omega arith) in omega arith
 
     piece-same : (c d : Component) → c .subframe ≡ d .subframe → c .word ≡ d .word → piece subs c .word ≡ piece subs d .word
@@ -64,7 +65,7 @@ module _ (subs : List Subframe) where
         same-tests _ _
         (λ e.
         let w = component-at-bit subs c d r q (eqb-true _ _ e) in
-        eq-eqb (spot c .word) (spot d .word) (ap₂ (λ (a b : ℕ). a * 1025 + b) (w .0) (w .1)))
+        eq-eqb (spot c .word) (spot d .word) (ap₂ (λ (a b : ℕ). a * wordSpan + b) (w .0) (w .1)))
         (λ e.
         let w = eqb-true (spot c .word) (spot d .word) e in
         let m = word-small c r in

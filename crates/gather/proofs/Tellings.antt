@@ -18,7 +18,7 @@ use Rattle.lineforms.specs.declared.due.Due.the-variants as due
 use Rattle.lineforms.specs.declared.due.Form.{Form}
 use Rattle.lineforms.specs.declared.due.Form.the-variants as form
 use Rattle.model.specs.Content.{noParameter}
-use Rattle.model.specs.Limits.{base}
+use Rattle.model.specs.Forms.{sheetLimits}
 use Rattle.model.specs.Meaning.{SubframeLaw, ParameterLaw}
 use Rattle.gather.specs.Book.{Book, samplesOf, allComponentsOf}
 use Rattle.gather.specs.Ruling.{formAt}
@@ -37,12 +37,12 @@ headed-between K h n =
             some = h .some;
             few = h .few;
             long = spread-long (K .declared) (K .pairs) n;
-            each = spread-each (K .declared) (K .pairs) (SubframeLaw base) (h .each);
+            each = spread-each (K .declared) (K .pairs) (SubframeLaw sheetLimits) (h .each);
           };
       whole =
           record {
             few = omega arith;
-            each = each-none (ParameterLaw base (subsOf K)) noParameter (K .parameters) (h .noParameters);
+            each = each-none (ParameterLaw sheetLimits (subsOf K)) noParameter (K .parameters) (h .noParameters);
             apart = λ i k l m. absurd (omega arith);
           };
       noParts = h .noParts;

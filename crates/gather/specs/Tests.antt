@@ -16,7 +16,7 @@ use Rattle.lineforms.specs.LineFields.{headerFields, recordFields, nameFields, 
 use Rattle.lineforms.specs.declared.due.Form.{Form}
 use Rattle.lineforms.specs.declared.due.Form.the-variants.{Stray, Superframe, HeaderWord, HeaderLine, RecordWord, RecordLine, NoneWord, ParameterWord, NameLine, OpeningComponent, ComponentLine, TimeLine, SamplesEnd, SignedLine, RangeLine, SourceLine, LabelLine, SourceEnd, ParameterEnd}
 use Rattle.model.specs.Content.{Parameter, Sample, Component}
-use Rattle.model.specs.Limits.{base}
+use Rattle.model.specs.Forms.{sheetLimits}
 use Rattle.model.specs.Identifiers.{namedApart}
 use Rattle.gather.specs.Book.{Book, componentOf, namedOf, samplesSoFar, componentsSoFar, wordsOf, bitsOf}
 
@@ -46,18 +46,18 @@ dueTest ParameterEnd = Passes
 -- 12, "one item more than a count limit", "on the line that opens the item too many": "512 parameters; 64 samples each,
 -- 4,096 in all; 8 components a sample, 4,096 in all"
 unfoldable pub roomForParameter : Book → Judged
-roomForParameter K = when (leb (base .parameters) (length (K .parameters))) TooMany
+roomForParameter K = when (leb (sheetLimits .parameters) (length (K .parameters))) TooMany
 
 unfoldable pub roomForSample : Book → Judged
 roomForSample K =
     when
-    (leb (base .samplesEach) (length (K .opened .samples))
-    || (leb (base .samples) (samplesSoFar K) || leb (base .components) (componentsSoFar K)))
+    (leb (sheetLimits .samplesEach) (length (K .opened .samples))
+    || (leb (sheetLimits .samples) (samplesSoFar K) || leb (sheetLimits .components) (componentsSoFar K)))
     TooMany
 
 unfoldable pub roomForComponent : Book → Judged
 roomForComponent K =
-    when (leb (base .componentsEach) (length (K .parts)) || leb (base .components) (componentsSoFar K)) TooMany
+    when (leb (sheetLimits .componentsEach) (length (K .parts)) || leb (sheetLimits .components) (componentsSoFar K)) TooMany
 
 abbrev pub roomTest : Form → Book → Judged
 roomTest Stray K = Passes
@@ -102,9 +102,12 @@ fieldTests LabelLine K l = labelFields l
 fieldTests SourceEnd K l = []
 fieldTests ParameterEnd K l = []
 
--- 14: components side by side, subframe and word as one number (a word is at most 1,024)
+-- 14: components side by side, subframe and word as one number: a word is less than wordSpan
+abbrev pub wordSpan : ℕ
+wordSpan = sheetLimits .words + 1
+
 abbrev pub spot : Component → Piece
-spot c = record { word = c .subframe * 1025 + c .word; low = c .low; high = c .high }
+spot c = record { word = c .subframe * wordSpan + c .word; low = c .low; high = c .high }
 
 unfoldable pub spots : List Component → List Piece
 spots [] = []
@@ -112,7 +115,7 @@ spots (c ∷ cs) = spot c ∷ spots cs
 
 -- "a bit twice in one sample; width above 32", at the component that does it
 unfoldable pub joinedTest : List Component → Judged
-joinedTest cs = when (twice (spots cs) || ltb (base .width) (width (spots cs))) BadSample
+joinedTest cs = when (twice (spots cs) || ltb (sheetLimits .width) (width (spots cs))) BadSample
 
 -- "width unlike the parameter's first sample", "unequal width on the time line"
 unfoldable pub widthTest : List Sample → List Component → Judged

@@ -17,7 +17,7 @@ use Rattle.lineforms.specs.Forms.{dueAfter}
 use Rattle.lineforms.specs.declared.due.Due.{Due}
 use Rattle.lineforms.specs.declared.due.Due.the-variants as due
 use Rattle.model.specs.Content.{Content, parameters, subframes}
-use Rattle.model.specs.Limits.{base}
+use Rattle.model.specs.Forms.{sheetLimits}
 use Rattle.model.specs.Identifiers.{identifies, taken, identifiersOk}
 use Rattle.model.specs.Meaning.{Lawful, IdentifiersLaw}
 use Rattle.model.proofs.Meanings.{lawful-law, identifiers-made}
@@ -37,7 +37,7 @@ use Rattle.grammar.proofs.ReadEnds.{reads-signed, reads-range, reads-so
 
 -- ---- a line, whatever is due
 
-pub reads : (d : Due) (K : Book) (l : List ℕ) (c : Content) (items : List Item) (ls : List (List Item)) → Lawful base c → Begun d K → Line l items → Left d K c (items ∷ ls) → Step d K l c ls
+pub reads : (d : Due) (K : Book) (l : List ℕ) (c : Content) (items : List Item) (ls : List (List Item)) → Lawful sheetLimits c → Begun d K → Line l items → Left d K c (items ∷ ls) → Step d K l c ls
 reads due.HeaderWord K l c items ls h b r x = reads-header-word K l c items ls h r x
 reads due.HeaderLine K l c items ls h b r x = reads-header K l c items ls h r x
 reads due.RecordWord K l c items ls h b r x = reads-record-word K l c items ls h r x
@@ -66,7 +66,7 @@ module _ (c : Content) where
       let a : all (parameters c) (identifies c) ≡ true = rule _ e 0 in
       find-none (parameters c) (λ i. not (identifies c i)) (λ k l. rw (all-below (parameters c) (identifies c) a k l))
 
-  lawful-identified : (os : List ℕ) → Lawful base c → identified c os ≡ Accepted c
+  lawful-identified : (os : List ℕ) → Lawful sheetLimits c → identified c os ≡ Accepted c
   unfolding identified
   lawful-identified os h = go (eqb (parameters c) 0) refl (h .identifiers)
     where
@@ -89,7 +89,7 @@ grows-content K c m =
     let p : c .parameters ≡ K .parameters = m .list ∙ append-nil (K .parameters) in
     rw (← m .sequential, ← m .subframes, ← p)
 
-grows-accepted : (K : Book) (os : List ℕ) (c : Content) → Lawful base c → Grows K c [] → identified (contentOf K) os ≡ Accepted c
+grows-accepted : (K : Book) (os : List ℕ) (c : Content) → Lawful sheetLimits c → Grows K c [] → identified (contentOf K) os ≡ Accepted c
 grows-accepted K os c h m = rw (grows-content K c m) (lawful-identified c os h)
 
 -- ---- the end of the sheet
@@ -103,7 +103,7 @@ body-left : {A : Type 0} (xs : List (List Item)) (told : List Told) → [] ≡ x
 body-left xs [] e = some-left xs _ _ e
 body-left xs (t ∷ ts) e = some-left xs _ _ e
 
-module _ (K : Book) (os : List ℕ) (k : ℕ) (c : Content) (h : Lawful base c) where
+module _ (K : Book) (os : List ℕ) (k : ℕ) (c : Content) (h : Lawful sheetLimits c) where
   parameters-end : (told : List Told) → [] ≡ parameterLines told → Grows K c (parametersOf told) → identified (contentOf K) os ≡ Accepted c
   parameters-end [] e m = grows-accepted K os c h m
   parameters-end (t ∷ ts) e m = none-left e
@@ -138,7 +138,7 @@ AreLines (unended l) lines = ⊥
 AreLines (line l ls) [] = ⊥
 AreLines (line l ls) (items ∷ rest) = Line l items × AreLines ls rest
 
-run-accepts : (d : Due) (K : Book) (os : List ℕ) (k : ℕ) (ls : Lines) (lines : List (List Item)) (c : Content) → Lawful base c → Begun d K → AreLines ls lines → Left d K c lines → run d K os k ls ≡ Accepted c
+run-accepts : (d : Due) (K : Book) (os : List ℕ) (k : ℕ) (ls : Lines) (lines : List (List Item)) (c : Content) → Lawful sheetLimits c → Begun d K → AreLines ls lines → Left d K c lines → run d K os k ls ≡ Accepted c
 unfolding run
 run-accepts d K os k none [] c h b w x = end-accepts K os (k + 1) c h d x
 run-accepts d K os k none (items ∷ rest) c h b w x = absurd w
@@ -164,7 +164,7 @@ unfolding judgeOf
 says-accepted x c s =
     let w = written-lines x (sheetLines c (s .pairs) (s .told)) (s .written) in
     rw (le-ltb 65536 (length x) (s .short))
-    (run-accepts due.HeaderWord emptyBook [] 0 (linesOf x) (sheetLines c (s .pairs) (s .told)) c (lawful-law base c (s .lawful)) tt w
+    (run-accepts due.HeaderWord emptyBook [] 0 (linesOf x) (sheetLines c (s .pairs) (s .told)) c (lawful-law sheetLimits c (s .lawful)) tt w
     (record {
       rest = _;
       lines = refl;

@@ -13,6 +13,7 @@ use Rattle.lines.specs.Line.{allClean}
 use Rattle.lines.proofs.Orders.{first-none}
 use Rattle.lineforms.specs.LineFields.{signedFields, rangeFields, sourceFields, labelFields}
 use Rattle.lineforms.specs.Said.{signedIn, valueIn}
+use Rattle.model.specs.Forms.{sheetLimits}
 use Rattle.grammar.specs.Written.{Fields}
 use Rattle.grammar.specs.Says.{signedLine, rangeLine, sourceLine, labelLine}
 use Rattle.grammar.proofs.FoundFields.{field-tidy}
@@ -73,7 +74,7 @@ pub record RangeRead (i : Bool) (l : List ℕ) (v : ℕ) : Type 0 where
   pub pass : first (rangeFields i l) ≡ Passes
   pub says : i ≡ true → valueIn l ≡ v
 
-pub range-read : (i : Bool) (l : List ℕ) (v : ℕ) → v ≤ 4294967295 → Fields l (rangeLine i v) → RangeRead i l v
+pub range-read : (i : Bool) (l : List ℕ) (v : ℕ) → v ≤ sheetLimits .value → Fields l (rangeLine i v) → RangeRead i l v
 range-read i l v b w =
     let r = fields-at l (rangeLine i v) (omega arith) w in
     let s = range-taken (fieldOf 0 l) i v b (r 0 (omega arith)) in

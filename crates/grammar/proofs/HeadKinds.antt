@@ -15,7 +15,7 @@ use Rattle.lineforms.specs.LineFields.{headerFields, recordFields}
 use Rattle.lineforms.specs.Said.{subframesIn, sequentialIn}
 use Rattle.gather.specs.Book.{subframeOf}
 use Rattle.model.specs.Content.{Subframe}
-use Rattle.model.specs.Limits.{base}
+use Rattle.model.specs.Forms.{sheetLimits}
 use Rattle.model.specs.Meaning.{SubframeLaw}
 use Rattle.grammar.specs.Written.{Fields}
 use Rattle.grammar.specs.Says.{headerLine, recordLine}
@@ -44,7 +44,7 @@ header-told l c n e =
     & truth-spelled (fieldOf 8 l) (q 8)
     & empty-spelled (fieldOf 9 l) (q 9)
     & empty-spelled (fieldOf 10 l) (q 10)
-    & integer-spelled (fieldOf 11 l) 6 1 32 (q 11)
+    & integer-spelled (fieldOf 11 l) 6 1 (sheetLimits .subframes) (q 11)
     & text-spelled (fieldOf 12 l) (t 12) (q 12)
     & text-spelled (fieldOf 13 l) (t 13) (q 13)
     & tt)
@@ -55,11 +55,11 @@ pub record HeaderRead (l : List ℕ) (q : Bool) (s : ℕ) : Type 0 where
   pub sequential : sequentialIn l ≡ q
   pub subframes : subframesIn l ≡ s
 
-pub header-read : (l : List ℕ) (q : Bool) (s : ℕ) → 1 ≤ s → s ≤ 32 → Fields l (headerLine q s) → HeaderRead l q s
+pub header-read : (l : List ℕ) (q : Bool) (s : ℕ) → 1 ≤ s → s ≤ sheetLimits .subframes → Fields l (headerLine q s) → HeaderRead l q s
 header-read l q s a b w =
     let r = fields-at l (headerLine q s) (omega arith) w in
     let t = truth-taken (fieldOf 8 l) q (r 8 (omega arith)) in
-    let n = integer-taken (fieldOf 11 l) 6 1 32 s a b (r 11 (omega arith)) in
+    let n = integer-taken (fieldOf 11 l) 6 1 (sheetLimits .subframes) s a b (r 11 (omega arith)) in
     record {
       count = fields-count l (headerLine q s) (omega arith) w;
       pass =
@@ -89,10 +89,10 @@ pub record-told : (l : List ℕ) → allClean l ≡ true → fieldCount l ≡ 5 
 record-told l c n e =
     let q = first-none (recordFields l) e in
     all-fields l (recordLine (subframeOf l)) (omega arith) n
-    (integer-spelled (fieldOf 0 l) 6 1 16 (q 0)
-    & integer-spelled (fieldOf 1 l) 6 1 1024 (q 1)
-    & margin-spelled (fieldOf 2 l) 4095 (q 2)
-    & margin-spelled (fieldOf 3 l) 4095 (q 3)
+    (integer-spelled (fieldOf 0 l) 6 1 (sheetLimits .bits) (q 0)
+    & integer-spelled (fieldOf 1 l) 6 1 (sheetLimits .words) (q 1)
+    & margin-spelled (fieldOf 2 l) (sheetLimits .margin) (q 2)
+    & margin-spelled (fieldOf 3 l) (sheetLimits .margin) (q 3)
     & seconds-spelled (fieldOf 4 l) (q 4)
     & tt)
 
@@ -106,13 +106,13 @@ same-pair : (q : Subframe) (a b c d e f : ℕ) → a ≡ q .bits → b ≡ q .wo
     → record { bits = a; words = b; leading = c; trailing = d; numerator = e; denominator = f } ≡ q
 same-pair q a b c d e f i j k m n o = rw (i, j, k, m, n, o) refl
 
-pub record-read : (l : List ℕ) (p : Subframe) → SubframeLaw base p → Fields l (recordLine p) → RecordRead l p
+pub record-read : (l : List ℕ) (p : Subframe) → SubframeLaw sheetLimits p → Fields l (recordLine p) → RecordRead l p
 record-read l p h w =
     let r = fields-at l (recordLine p) (omega arith) w in
-    let b = integer-taken (fieldOf 0 l) 6 1 16 (p .bits) (h .someBits) (h .fewBits) (r 0 (omega arith)) in
-    let d = integer-taken (fieldOf 1 l) 6 1 1024 (p .words) (h .someWords) (h .fewWords) (r 1 (omega arith)) in
-    let m = margin-taken (fieldOf 2 l) 4095 (p .leading) (h .leading) (r 2 (omega arith)) in
-    let n = margin-taken (fieldOf 3 l) 4095 (p .trailing) (h .trailing) (r 3 (omega arith)) in
+    let b = integer-taken (fieldOf 0 l) 6 1 (sheetLimits .bits) (p .bits) (h .someBits) (h .fewBits) (r 0 (omega arith)) in
+    let d = integer-taken (fieldOf 1 l) 6 1 (sheetLimits .words) (p .words) (h .someWords) (h .fewWords) (r 1 (omega arith)) in
+    let m = margin-taken (fieldOf 2 l) (sheetLimits .margin) (p .leading) (h .leading) (r 2 (omega arith)) in
+    let n = margin-taken (fieldOf 3 l) (sheetLimits .margin) (p .trailing) (h .trailing) (r 3 (omega arith)) in
     let s = seconds-taken (fieldOf 4 l) (p .numerator) (p .denominator) (r 4 (omega arith)) in
     record {
       count = fields-count l (recordLine p) (omega arith) w;

@@ -22,6 +22,7 @@ use Rattle.written.proofs.Durations.{seconds-exactly}
 use Rattle.written.proofs.Judges.{decimal-judged, component-bits-judged, seconds-judged}
 use Rattle.lineforms.specs.LineFields.{rangeJudged}
 use Rattle.lineforms.specs.Said.{numeratorOf, denominatorOf, lowOf, highOf}
+use Rattle.model.specs.Forms.{sheetLimits}
 use Rattle.grammar.specs.Items.{Spelled, time, delay, bits, bitsOrNone, seconds}
 use Rattle.grammar.specs.Says.{range}
 use Rattle.grammar.proofs.Tidy.{Tidy}
@@ -91,14 +92,15 @@ module _ (f : List ℕ) where
 
   -- ---- an identifier's value, else a text
 
-  pub range-spelled : (i : Bool) → Tidy f → rangeJudged i f ≡ Passes → Spelled (range i (cond i (amountOf (integerOf 10 0 4294967295 f)) 0)) f
+  pub range-spelled : (i : Bool) → Tidy f → rangeJudged i f ≡ Passes → Spelled (range i (cond i (amountOf (integerOf 10 0 (sheetLimits .value) f)) 0)) f
   unfolding rangeJudged
-  range-spelled true t e = integer-spelled f 10 0 4294967295 e
+  range-spelled true t e = integer-spelled f 10 0 (sheetLimits .value) e
   range-spelled false t e = text-spelled f t e
 
-  pub range-taken : (i : Bool) (v : ℕ) → v ≤ 4294967295 → Spelled (range i v) f → (rangeJudged i f ≡ Passes) × (i ≡ true → amountOf (integerOf 10 0 4294967295 f) ≡ v)
+  pub range-taken : (i : Bool) (v : ℕ) → v ≤ sheetLimits .value → Spelled (range i v) f
+      → (rangeJudged i f ≡ Passes) × (i ≡ true → amountOf (integerOf 10 0 (sheetLimits .value) f) ≡ v)
   unfolding rangeJudged
   range-taken true v b r =
-      let s = integer-taken f 10 0 4294967295 v (omega arith) b r in
+      let s = integer-taken f 10 0 (sheetLimits .value) v (omega arith) b r in
       (s .0, λ e. s .1)
   range-taken false v b r = (text-taken f r, λ e. absurd (let z : _≡_ {A = ℕ} 0 1 = cc in omega arith))

@@ -1,9 +1,9 @@
 -- A lawful Content seen from one parameter, one sample and one component in the middle of it: the tests of 12, 14 and 15
 -- pass there. Assumes nothing.
 use mathlib.Core.Path.{_≡_, refl, sym, ap, _∙_, subst}
-use mathlib.Core.Bool.{Bool, true, false, _||_}
+use mathlib.Core.Bool.{true, false}
 use mathlib.Core.List.{List, [], _∷_, _++_, append-assoc}
-use Prim.Native.Nat.{ℕ, zero, suc, _+_, _≤_, _<_}
+use Prim.Native.Nat.{suc, _+_, _≤_, _<_}
 use native.Mathlib.Omega.{arith}
 use borrow.Author.Tests.{le-ltb, eq-eqb}
 use lib.ListN.{length, getD, length-append, List·getD-append}
@@ -14,7 +14,7 @@ use Rattle.sample.specs.Joining.{width}
 use Rattle.text.specs.declared.refusal.Judged.the-variants.{Passes}
 use Rattle.written.proofs.Tests.{neither}
 use Rattle.model.specs.Content.{Content, Parameter, Sample, Component, Subframe, noParameter, noSample, noComponent, noSubframe, parameters}
-use Rattle.model.specs.Limits.{base}
+use Rattle.model.specs.Forms.{sheetLimits}
 use Rattle.model.specs.Samples.{widthOf}
 use Rattle.model.specs.Meaning.{Lawful, ParameterLaw, SampleLaw, ComponentLaw, NamedApart}
 use Rattle.model.proofs.Meanings.{apart-made}
@@ -52,24 +52,24 @@ unfolding apartFrom
 each-apart [] q h = refl
 each-apart (p ∷ ps) q h = and-both (apart-made p q (h 0 (omega arith))) (each-apart ps q (λ k l. h (suc k) (omega arith)))
 
-module _ (c : Content) (h : Lawful base c) (ps : List Parameter) (p : Parameter) (qs : List Parameter) (e : c .parameters ≡ ps ++ (p ∷ qs)) where
+module _ (c : Content) (h : Lawful sheetLimits c) (ps : List Parameter) (p : Parameter) (qs : List Parameter) (e : c .parameters ≡ ps ++ (p ∷ qs)) where
   middle-here : length ps < parameters c
   middle-here = omega (arith, ap length e, length-append ps (p ∷ qs))
 
   middle-is : getD (c .parameters) (length ps) noParameter ≡ p
   middle-is = ap (λ (l : List Parameter). getD l (length ps) noParameter) e ∙ at-middle ps p qs noParameter
 
-  pub middle-law : ParameterLaw base (c .subframes) p
-  middle-law = subst (λ (q : Parameter). ParameterLaw base (c .subframes) q) middle-is (h .eachParameter (length ps) middle-here)
+  pub middle-law : ParameterLaw sheetLimits (c .subframes) p
+  middle-law = subst (λ (q : Parameter). ParameterLaw sheetLimits (c .subframes) q) middle-is (h .eachParameter (length ps) middle-here)
 
-  pub middle-room : length ps < 512
+  pub middle-room : length ps < sheetLimits .parameters
   middle-room = omega (arith, middle-here, h .fewParameters)
 
-  pub middle-samples : samplesOf ps + length (p .samples) ≤ 4096
+  pub middle-samples : samplesOf ps + length (p .samples) ≤ sheetLimits .samples
   unfolding samplesOf
   middle-samples = omega (arith, h .fewSamples, samples-counted c, ap samplesOf e, samples-join ps (p ∷ qs))
 
-  pub middle-components : allComponentsOf ps + componentsOf (p .samples) ≤ 4096
+  pub middle-components : allComponentsOf ps + componentsOf (p .samples) ≤ sheetLimits .components
   unfolding allComponentsOf
   middle-components = omega (arith, h .fewComponents, components-counted c, ap allComponentsOf e, all-join ps (p ∷ qs))
 
@@ -82,17 +82,17 @@ module _ (c : Content) (h : Lawful base c) (ps : List Parameter) (p : Parameter)
 
 -- ---- a sample
 
-module _ (subs : List Subframe) (p : Parameter) (h : ParameterLaw base subs p) (ss : List Sample) (s : Sample) (ts : List Sample) (e : p .samples ≡ ss ++ (s ∷ ts)) where
+module _ (subs : List Subframe) (p : Parameter) (h : ParameterLaw sheetLimits subs p) (ss : List Sample) (s : Sample) (ts : List Sample) (e : p .samples ≡ ss ++ (s ∷ ts)) where
   sample-here : length ss < length (p .samples)
   sample-here = omega (arith, ap length e, length-append ss (s ∷ ts))
 
   sample-is : getD (p .samples) (length ss) noSample ≡ s
   sample-is = ap (λ (l : List Sample). getD l (length ss) noSample) e ∙ at-middle ss s ts noSample
 
-  pub sample-law : SampleLaw base subs s
-  sample-law = subst (λ (t : Sample). SampleLaw base subs t) sample-is (h .each (length ss) sample-here)
+  pub sample-law : SampleLaw sheetLimits subs s
+  sample-law = subst (λ (t : Sample). SampleLaw sheetLimits subs t) sample-is (h .each (length ss) sample-here)
 
-  pub sample-room : length ss < 64
+  pub sample-room : length ss < sheetLimits .samplesEach
   sample-room = omega (arith, sample-here, h .few)
 
   pub width-passes : widthTest ss (s .components) ≡ Passes
@@ -134,7 +134,7 @@ twice-front (x ∷ xs) ys h =
     let n = neither (clashAny x (xs ++ ys)) (twice (xs ++ ys)) h in
     rw (any-front x xs ys (n .0)) (twice-front xs ys (n .1))
 
-module _ (subs : List Subframe) (small : Each (λ f. f .words ≤ 1024) noSubframe subs) (s : Sample) (h : SampleLaw base subs s) (cs : List Component) (k : Component) (ds : List Component) (e : s .components ≡ cs ++ (k ∷ ds)) where
+module _ (subs : List Subframe) (small : Each (λ f. f .words ≤ sheetLimits .words) noSubframe subs) (s : Sample) (h : SampleLaw sheetLimits subs s) (cs : List Component) (k : Component) (ds : List Component) (e : s .components ≡ cs ++ (k ∷ ds)) where
   part-here : length cs < length (s .components)
   part-here = omega (arith, ap length e, length-append cs (k ∷ ds))
 
@@ -144,7 +144,7 @@ module _ (subs : List Subframe) (small : Each (λ f. f .words ≤ 1024) noSubfra
       ap (λ (l : List Component). getD l (length cs) noComponent) e ∙ at-middle cs k ds noComponent in
       subst (λ (d : Component). ComponentLaw subs d) i (h .each (length cs) part-here)
 
-  pub part-room : length cs < 8
+  pub part-room : length cs < sheetLimits .componentsEach
   part-room = omega (arith, part-here, h .few)
 
   pub joined-passes : joinedTest (cs ++ (k ∷ [])) ≡ Passes
@@ -154,6 +154,6 @@ module _ (subs : List Subframe) (small : Each (λ f. f .words ≤ 1024) noSubfra
       let j : spots (s .components) ≡ spots (cs ++ (k ∷ [])) ++ spots ds = ap spots q ∙ spots-join (cs ++ (k ∷ [])) ds in
       let t : twice (spots (cs ++ (k ∷ []))) ≡ false =
       twice-front (spots (cs ++ (k ∷ []))) (spots ds) (sym (ap twice j) ∙ sym (spots-twice subs small s (h .each)) ∙ h .once) in
-      let w : width (spots (cs ++ (k ∷ []))) ≤ 32 =
+      let w : width (spots (cs ++ (k ∷ []))) ≤ sheetLimits .width =
       omega (arith, h .narrow, spots-width subs s, ap width j, width-join (spots (cs ++ (k ∷ []))) (spots ds)) in
-      rw (t, le-ltb 32 (width (spots (cs ++ (k ∷ [])))) w)
+      rw (t, le-ltb (sheetLimits .width) (width (spots (cs ++ (k ∷ [])))) w)

@@ -19,7 +19,7 @@ use Rattle.lineforms.specs.LineFields.{declaredFor, nameFields, componentFields
 use Rattle.lineforms.specs.Said.{identifierIn, timeIn}
 use Rattle.gather.specs.Book.{componentOf, namedOf}
 use Rattle.model.specs.Content.{Component, Parameter}
-use Rattle.model.specs.Limits.{base}
+use Rattle.model.specs.Forms.{sheetLimits}
 use Rattle.model.specs.Meaning.{TextLaw}
 use Rattle.grammar.specs.Items.{time}
 use Rattle.grammar.specs.Written.{Fields}
@@ -55,7 +55,7 @@ pub record NameRead (l : List ℕ) (p : Parameter) : Type 0 where
   pub identification : fieldOf 2 l ≡ p .identification
   pub identifier : identifierIn l ≡ p .identifier
 
-pub name-read : (l : List ℕ) (p : Parameter) → 1 ≤ length (p .name) → TextLaw base (p .name) → TextLaw base (p .mnemonic) → TextLaw base (p .identification) → Fields l (nameLine p) → NameRead l p
+pub name-read : (l : List ℕ) (p : Parameter) → 1 ≤ length (p .name) → TextLaw sheetLimits (p .name) → TextLaw sheetLimits (p .mnemonic) → TextLaw sheetLimits (p .identification) → Fields l (nameLine p) → NameRead l p
 name-read l p s a b d w =
     let r = fields-at l (nameLine p) (omega arith) w in
     let i = truth-taken (fieldOf 3 l) (p .identifier) (r 3 (omega arith)) in

@@ -1,4 +1,4 @@
--- The plain spelling of an item spells it, in at most 64 bytes. Assumes nothing.
+-- The plain spelling of an item spells it, in no more bytes than a name has. Assumes nothing.
 use mathlib.Core.Path.{refl}
 use mathlib.Core.Logic.{inl, inr}
 use mathlib.Core.Bool.{true, false}
@@ -9,7 +9,7 @@ use lib.ListN.{length, getD, length-append}
 use Rattle.spell.specs.Digits.{number, places, placeOf}
 use Rattle.spell.specs.BitRanges.{hyphen}
 use Rattle.written.specs.Words.{Digit, IsInteger, IsOctal}
-use Rattle.model.specs.Limits.{base}
+use Rattle.model.specs.Forms.{sheetLimits}
 use Rattle.model.specs.Meaning.{ByteLaw, SecondsLaw}
 use Rattle.grammar.specs.Items.{Item, exactly, text, someText, truth, truthOrNone, integer, margin, time, delay, bits, bitsOrNone, label, seconds, Text, Spelled}
 use Rattle.grammar.specs.Plain.{decimal, plainItem}
@@ -48,7 +48,7 @@ pub record Counted (m v : ℕ) : Type 0 where
 
 -- what a plain spelling asks of an item
 abbrev pub Sayable : Item → Type 0
-Sayable (exactly t) = Text t × (length t ≤ 64)
+Sayable (exactly t) = Text t × (length t ≤ sheetLimits .text)
 Sayable text = Unit {0}
 Sayable someText = Unit {0}
 Sayable (truth b) = Unit {0}
@@ -60,7 +60,7 @@ Sayable delay = Unit {0}
 Sayable (bits a b) = (a < 1000000) × (b < 1000000)
 Sayable bitsOrNone = Unit {0}
 Sayable label = Unit {0}
-Sayable (seconds n d) = SecondsLaw base n d
+Sayable (seconds n d) = SecondsLaw sheetLimits n d
 
 integer-spelled : (m v : ℕ) → Counted m v → IsInteger m (decimal v) v
 integer-spelled zero v h = absurd (omega (arith, h .some))
@@ -91,7 +91,7 @@ item-spelled bitsOrNone h = inl refl
 item-spelled label h = (0, (zero-label, omega arith))
 item-spelled (seconds n d) h = seconds-spelled n d h
 
-pub item-short : (i : Item) → Sayable i → length (plainItem i) ≤ 64
+pub item-short : (i : Item) → Sayable i → length (plainItem i) ≤ sheetLimits .text
 item-short (exactly t) h = h .1
 item-short text h = omega arith
 item-short someText h = omega arith

@@ -1,10 +1,11 @@
 -- Lines put together from plain items are those items' lines. Assumes nothing.
 use mathlib.Core.Path.{_≡_, refl, sym, ap}
 use mathlib.Core.List.{List, [], _∷_, _++_}
-use Prim.Native.Nat.{ℕ, _*_, _≤_}
+use Prim.Native.Nat.{ℕ, _+_, _*_, _≤_}
 use native.Mathlib.Omega.{arith}
 use lib.ListN.{length, length-append}
 use Rattle.text.specs.Fields.{comma}
+use Rattle.model.specs.Forms.{sheetLimits}
 use Rattle.grammar.specs.Items.{Item}
 use Rattle.grammar.specs.Written.{Blanks, Field, Fields, Line, Written}
 use Rattle.grammar.specs.Plain.{plainItem, plainLine, plainLines}
@@ -40,7 +41,7 @@ plain-fields [] h = no-blanks
 plain-fields (i ∷ []) h = plain-field i (h .0)
 plain-fields (i ∷ j ∷ is) h = (plainItem i, plainLine (j ∷ is), refl, plain-field i (h .0), plain-fields (j ∷ is) (h .1))
 
-plain-short : (is : List Item) → AllSayable is → length (plainLine is) ≤ 65 * length is
+plain-short : (is : List Item) → AllSayable is → length (plainLine is) ≤ (sheetLimits .text + 1) * length is
 plain-short [] h = omega arith
 plain-short (i ∷ []) h = omega (arith, item-short i (h .0))
 plain-short (i ∷ j ∷ is) h =

@@ -14,31 +14,31 @@ use Rattle.spell.specs.Decimals.{million}
 use Rattle.spell.specs.Durations.{slash}
 use Rattle.ratio.proofs.Divisors.{lowest-one}
 use Rattle.written.specs.Words.{IsInteger, SaysSeconds}
-use Rattle.model.specs.Limits.{base}
+use Rattle.model.specs.Forms.{sheetLimits}
 use Rattle.model.specs.Meaning.{SecondsLaw}
 use Rattle.grammar.specs.Plain.{decimal, pointed, plainSeconds}
 use Rattle.grammar.proofs.Digits.{decimal-six, pointed-is, pointed-short}
 
-module _ (n d : ℕ) (h : SecondsLaw base n d) where
+module _ (n d : ℕ) (h : SecondsLaw sheetLimits n d) where
   terms : (k : ℕ) → n % k ≡ 0 → d % k ≡ 0 → k ≡ 1
   terms = lowest-one n d (h .terms)
 
-  whole-small : n / d < 1000000
-  whole-small = div-lt-iff-lt-mul {k = d} {x = n} {y = 1000000} (h .someBelow) .1 (h .less)
+  whole-small : n / d < sheetLimits .seconds
+  whole-small = div-lt-iff-lt-mul {k = d} {x = n} {y = sheetLimits .seconds} (h .someBelow) .1 (h .less)
 
   rest-small : n % d < d
   rest-small = mod-lt n (h .someBelow)
 
   -- the third way is for what is neither whole nor in millionths
   module _ (e : eqb d 1 ≡ false) (f : eqb d million ≡ false) where
-    under-small : d < 1000000
+    under-small : d < million
     under-small = let z : d ≡ million → ⊥ = eqb-false d million f in omega (arith, h .small)
 
     rest-some : 1 ≤ n % d
     rest-some = let z : n % d ≡ 0 → ⊥ = λ r. eqb-false d 1 e (terms d r (mod-self d)) in omega arith
 
     whole-is : IsInteger 6 (decimal (n / d)) (n / d)
-    whole-is = decimal-six (n / d) whole-small
+    whole-is = decimal-six (n / d) (omega (arith, whole-small))
 
     above-is : IsInteger 6 (decimal (n % d)) (n % d)
     above-is = decimal-six (n % d) (omega (arith, rest-small, under-small))

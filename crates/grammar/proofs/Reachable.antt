@@ -6,7 +6,7 @@ use mathlib.Core.List.{List, [], _∷_}
 use Prim.Native.Nat.{_≤_}
 use lib.ListN.{length}
 use Rattle.model.specs.Content.{Content, Parameter}
-use Rattle.model.specs.Limits.{base}
+use Rattle.model.specs.Forms.{sheetLimits}
 use Rattle.model.specs.Lawful.{lawful}
 use Rattle.model.proofs.Meanings.{lawful-law}
 use Rattle.grammar.specs.Says.{Says, parametersOf, sheetLines}
@@ -19,7 +19,7 @@ tellings-list [] = refl
 tellings-list (p ∷ ps) = ap (λ (l : List Parameter). p ∷ l) (tellings-list ps)
 
 -- nothing lawful is unreachable
-pub reachable : (c : Content) → lawful base c ≡ true → length (plainSheet c) ≤ 65536 → Says (plainSheet c) c
+pub reachable : (c : Content) → lawful sheetLimits c ≡ true → length (plainSheet c) ≤ 65536 → Says (plainSheet c) c
 unfolding plainSheet
 reachable c h l =
     record {
@@ -27,7 +27,7 @@ reachable c h l =
       told = tellings (c .parameters);
       declare = inl refl;
       list = tellings-list (c .parameters);
-      written = plain-written (sheetLines c (c .subframes) (tellings (c .parameters))) (sheet-fine c (lawful-law base c h));
+      written = plain-written (sheetLines c (c .subframes) (tellings (c .parameters))) (sheet-fine c (lawful-law sheetLimits c h));
       short = l;
       lawful = h;
     }

@@ -10,7 +10,7 @@ use Rattle.lineforms.specs.Said.{valueIn}
 use Rattle.lineforms.specs.declared.due.Due.the-variants as due
 use Rattle.lineforms.specs.declared.due.Form.the-variants as form
 use Rattle.model.specs.Content.{Content}
-use Rattle.model.specs.Limits.{base}
+use Rattle.model.specs.Forms.{sheetLimits}
 use Rattle.model.specs.Meaning.{Lawful}
 use Rattle.gather.specs.Book.{Book}
 use Rattle.grammar.specs.Items.{Item}
@@ -28,7 +28,7 @@ value-kept : (i : Bool) (l : List ℕ) (v : ℕ) → (i ≡ false → v ≡ 0) �
 value-kept true l v z r = r .says refl
 value-kept false l v z r = sym (z refl)
 
-module _ (K : Book) (l : List ℕ) (c : Content) (items : List Item) (ls : List (List Item)) (h : Lawful base c) (line : Line l items) where
+module _ (K : Book) (l : List ℕ) (c : Content) (items : List Item) (ls : List (List Item)) (h : Lawful sheetLimits c) (line : Line l items) where
   -- ---- signed or not, and the range
 
   pub reads-signed : SignedLeft K c (items ∷ ls) → Step due.SignedLine K l c ls

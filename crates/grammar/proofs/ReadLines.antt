@@ -21,7 +21,7 @@ use Rattle.lineforms.specs.declared.due.Due.the-variants as due
 use Rattle.lineforms.specs.declared.due.Form.{Form}
 use Rattle.lineforms.specs.declared.due.Form.the-variants as form
 use Rattle.model.specs.Content.{Content, Subframe, noSubframe, subframes}
-use Rattle.model.specs.Limits.{base}
+use Rattle.model.specs.Forms.{sheetLimits}
 use Rattle.model.specs.Meaning.{Lawful, SubframeLaw}
 use Rattle.gather.specs.Book.{Book, subframeOf, grow, spread}
 use Rattle.gather.specs.Tests.{dueTest, roomTest, fieldTests, sampleTest, namesTest}
@@ -134,15 +134,15 @@ declare-spread pairs subs h (inr w) =
     }
 
 -- each pair is within its limits: it stands for a subframe
-module _ (c : Content) (s : ℕ) (ps : List Subframe) (p : Subframe) (qs : List Subframe) (h : Lawful base c) where
+module _ (c : Content) (s : ℕ) (ps : List Subframe) (p : Subframe) (qs : List Subframe) (h : Lawful sheetLimits c) where
   abbrev pairs : List Subframe
   pairs = ps ++ (p ∷ qs)
 
-  pub pair-law : c .subframes ≡ spread s (ps ++ (p ∷ qs)) → SubframeLaw base p
+  pub pair-law : c .subframes ≡ spread s (ps ++ (p ∷ qs)) → SubframeLaw sheetLimits p
   unfolding spread
   pair-law e = go (eqb (length pairs) 1) refl e
     where
-      go : (t : Bool) → eqb (length pairs) 1 ≡ t → c .subframes ≡ cond t (tab s (λ i. getD pairs 0 noSubframe)) pairs → SubframeLaw base p
+      go : (t : Bool) → eqb (length pairs) 1 ≡ t → c .subframes ≡ cond t (tab s (λ i. getD pairs 0 noSubframe)) pairs → SubframeLaw sheetLimits p
       go true q e =
           let n = length-append ps (p ∷ qs) in
           let m = eqb-true (length pairs) 1 q in
@@ -152,14 +152,14 @@ module _ (c : Content) (s : ℕ) (ps : List Subframe) (p : Subframe) (qs : List 
           ap (λ (l : List Subframe). getD l 0 noSubframe) e
           ∙ getD-tab s (λ i. getD pairs 0 noSubframe) noSubframe 0 (omega (arith, h .someSubframes, ap length e)) in
           let v : getD pairs 0 noSubframe ≡ p = rw z at (at-middle ps p qs noSubframe) in
-          subst (λ (f : Subframe). SubframeLaw base f) (w ∙ v) (h .eachSubframe 0 (h .someSubframes))
+          subst (λ (f : Subframe). SubframeLaw sheetLimits f) (w ∙ v) (h .eachSubframe 0 (h .someSubframes))
       go false q e =
           let n = length-append ps (p ∷ qs) in
           let w : getD (c .subframes) (length ps) noSubframe ≡ p =
           ap (λ (l : List Subframe). getD l (length ps) noSubframe) e ∙ at-middle ps p qs noSubframe in
-          subst (λ (f : Subframe). SubframeLaw base f) w (h .eachSubframe (length ps) (omega (arith, ap length e)))
+          subst (λ (f : Subframe). SubframeLaw sheetLimits f) w (h .eachSubframe (length ps) (omega (arith, ap length e)))
 
-module _ (K : Book) (l : List ℕ) (c : Content) (items : List Item) (ls : List (List Item)) (h : Lawful base c) (line : Line l items) where
+module _ (K : Book) (l : List ℕ) (c : Content) (items : List Item) (ls : List (List Item)) (h : Lawful sheetLimits c) (line : Line l items) where
   -- ---- the header
 
   pub reads-header-word : SheetLeft K c (items ∷ ls) → Step due.HeaderWord K l c ls

@@ -17,7 +17,7 @@ use Rattle.lineforms.specs.declared.due.Due.the-variants as due
 use Rattle.lineforms.specs.declared.due.Form.{Form}
 use Rattle.lineforms.specs.declared.due.Form.the-variants as form
 use Rattle.model.specs.Content.{Content, Parameter, Subframe, noParameter}
-use Rattle.model.specs.Limits.{base}
+use Rattle.model.specs.Forms.{sheetLimits}
 use Rattle.model.specs.Meaning.{Lawful, NamedApart}
 use Rattle.gather.specs.Book.{Book, namedOf}
 use Rattle.gather.specs.Tests.{roomForParameter, apartFrom, namesTest}
@@ -76,11 +76,11 @@ module _ (K : Book) (c : Content) (told : List Told) (m : Pairs K c [] told) whe
       }
 
 -- 12 on the line that opens a parameter
-room-passes : (K : Book) (c : Content) (p : Parameter) (ps : List Parameter) → Lawful base c → Grows K c (p ∷ ps) → roomForParameter K ≡ Passes
+room-passes : (K : Book) (c : Content) (p : Parameter) (ps : List Parameter) → Lawful sheetLimits c → Grows K c (p ∷ ps) → roomForParameter K ≡ Passes
 unfolding roomForParameter
-room-passes K c p ps h m = false-when _ _ (lt-leb 512 (length (K .parameters)) (middle-room c h (K .parameters) p ps (m .list)))
+room-passes K c p ps h m = false-when _ _ (lt-leb (sheetLimits .parameters) (length (K .parameters)) (middle-room c h (K .parameters) p ps (m .list)))
 
-module _ (K : Book) (l : List ℕ) (c : Content) (items : List Item) (ls : List (List Item)) (h : Lawful base c) (line : Line l items) where
+module _ (K : Book) (l : List ℕ) (c : Content) (items : List Item) (ls : List (List Item)) (h : Lawful sheetLimits c) (line : Line l items) where
   -- ---- after a record pair
 
   opening-none : Pairs K c [] [] → items ∷ ls ≡ word noneWord ∷ [] → Step due.Opening K l c ls

@@ -12,7 +12,7 @@ use Rattle.lineforms.specs.declared.due.Due.the-variants as due
 use Rattle.lineforms.specs.declared.due.Form.{Form}
 use Rattle.lineforms.specs.declared.due.Form.the-variants as form
 use Rattle.model.specs.Content.{Content, Parameter, Sample, Component}
-use Rattle.model.specs.Limits.{base}
+use Rattle.model.specs.Forms.{sheetLimits}
 use Rattle.model.specs.Meaning.{Lawful, ParameterLaw, SampleLaw, ComponentLaw}
 use Rattle.gather.specs.Book.{Book, componentOf, wordsOf, bitsOf, componentsOf, samplesSoFar, componentsSoFar, parting}
 use Rattle.gather.specs.Tests.{roomForSample, roomForComponent, joinedTest}
@@ -37,17 +37,17 @@ record Middle (K : Book) (c : Content) (k : Component) : Type 0 where
   closing : Closing
   made : Grows K c (completed (K .opened) (whole K (k ∷ parts) at ∷ samples) (closing .signed) (closing .value) ∷ parametersOf (closing .more))
 
-module _ (K : Book) (c : Content) (h : Lawful base c) (k : Component) (x : Middle K c k) where
+module _ (K : Book) (c : Content) (h : Lawful sheetLimits c) (k : Component) (x : Middle K c k) where
   abbrev sample : Sample
   sample = whole K (k ∷ x .parts) (x .at)
 
   abbrev parameter : Parameter
   parameter = completed (K .opened) (sample ∷ x .samples) (x .closing .signed) (x .closing .value)
 
-  open-law : ParameterLaw base (c .subframes) parameter
+  open-law : ParameterLaw sheetLimits (c .subframes) parameter
   open-law = middle-law c h (K .parameters) parameter (parametersOf (x .closing .more)) (x .made .list)
 
-  open-sample : SampleLaw base (c .subframes) sample
+  open-sample : SampleLaw sheetLimits (c .subframes) sample
   open-sample = sample-law (c .subframes) parameter open-law (K .opened .samples) sample (x .samples) refl
 
   component-law : ComponentLaw (c .subframes) k
@@ -76,12 +76,12 @@ module _ (K : Book) (c : Content) (h : Lawful base c) (k : Component) (x : Middl
   component-joins = joined-passes (c .subframes) (λ i l. h .eachSubframe i l .fewWords) sample open-sample (K .parts) k (x .parts) refl
 
   -- 12
-  some-samples : samplesSoFar K < 4096
+  some-samples : samplesSoFar K < sheetLimits .samples
   some-samples =
       omega
       (arith, middle-samples c h (K .parameters) parameter (parametersOf (x .closing .more)) (x .made .list), length-append (K .opened .samples) (sample ∷ x .samples))
 
-  some-components : componentsSoFar K < 4096
+  some-components : componentsSoFar K < sheetLimits .components
   unfolding componentsOf
   some-components =
       omega (
@@ -95,13 +95,17 @@ module _ (K : Book) (c : Content) (h : Lawful base c) (k : Component) (x : Middl
   unfolding roomForSample
   sample-passes =
       let n = sample-room (c .subframes) parameter open-law (K .opened .samples) sample (x .samples) refl in
-      rw (lt-leb 64 (length (K .opened .samples)) n, lt-leb 4096 (samplesSoFar K) some-samples, lt-leb 4096 (componentsSoFar K) some-components)
+      rw (
+        lt-leb (sheetLimits .samplesEach) (length (K .opened .samples)) n,
+        lt-leb (sheetLimits .samples) (samplesSoFar K) some-samples,
+        lt-leb (sheetLimits .components) (componentsSoFar K) some-components,
+      )
 
   component-passes : roomForComponent K ≡ Passes
   unfolding roomForComponent
   component-passes =
       let n = part-room (c .subframes) (λ i l. h .eachSubframe i l .fewWords) sample open-sample (K .parts) k (x .parts) refl in
-      rw (lt-leb 8 (length (K .parts)) n, lt-leb 4096 (componentsSoFar K) some-components)
+      rw (lt-leb (sheetLimits .componentsEach) (length (K .parts)) n, lt-leb (sheetLimits .components) (componentsSoFar K) some-components)
 
 -- ---- a component line
 
@@ -123,7 +127,7 @@ record Timed (K : Book) (l : List ℕ) (c : Content) (ls : List (List Item)) : T
   first : First l (time at ∷ []) ls (sampleLines samples ++ closed K closing)
   made : Grows K c (completed (K .opened) (record { time = at; components = K .parts } ∷ samples) (closing .signed) (closing .value) ∷ parametersOf (closing .more))
 
-module _ (K : Book) (l : List ℕ) (c : Content) (ls : List (List Item)) (h : Lawful base c) (x : Comes K l c ls) where
+module _ (K : Book) (l : List ℕ) (c : Content) (ls : List (List Item)) (h : Lawful sheetLimits c) (x : Comes K l c ls) where
   comes-read : ComponentRead (K .declared) (wordsOf (K .pairs)) (bitsOf (K .pairs)) l (x .component)
   comes-read =
       component-read (K .declared) (wordsOf (K .pairs)) (bitsOf (K .pairs)) l (x .component) (component-within K c h (x .component) (x .middle))
@@ -151,7 +155,7 @@ module _ (K : Book) (l : List ℕ) (c : Content) (ls : List (List Item)) (h : La
       line-passes K l (componentLine (x .component)) (x .first .line) form.OpeningComponent refl (sample-passes K c h (x .component) (x .middle))
       (comes-read .pass) comes-joins refl
 
-module _ (K : Book) (l : List ℕ) (c : Content) (items : List Item) (ls : List (List Item)) (h : Lawful base c) (line : Line l items) where
+module _ (K : Book) (l : List ℕ) (c : Content) (items : List Item) (ls : List (List Item)) (h : Lawful sheetLimits c) (line : Line l items) where
   -- a sample begins with a component
   sample-comes : (s : Sample) (ss : List Sample) (e : Closing) → Grows K c (completed (K .opened) (s ∷ ss) (e .signed) (e .value) ∷ parametersOf (e .more))
       → K .parts ≡ [] → items ∷ ls ≡ sampleLines (s ∷ ss) ++ closed K e → Comes K l c ls

@@ -14,7 +14,7 @@ use Rattle.text.specs.Blanks.{tab, isEmpty, isBlank}
 use Rattle.text.specs.Fields.{comma}
 use Rattle.text.specs.declared.refusal.Judged.the-variants.{Passes}
 use Rattle.spell.specs.Answers.{numberJudged, amountOf}
-use Rattle.spell.specs.Texts.{longestText, longestName, textJudged, version, versionJudged, emptyJudged}
+use Rattle.spell.specs.Texts.{longestText, textJudged, version, versionJudged, emptyJudged}
 use Rattle.spell.specs.Truths.{saysTrue, truthJudged, truthOrEmptyJudged}
 use Rattle.spell.specs.Integers.{mostOfSix, integerJudged, integerOf, declaredJudged, overlapJudged, marginOf, labelJudged}
 use Rattle.spell.specs.declared.answers.Number.the-variants.{Value}
@@ -28,7 +28,7 @@ use Rattle.written.proofs.Integers.{integer-exactly, overlap-exactly}
 use Rattle.written.proofs.Judges.{integer-judged, declared-judged, label-judged, truth-judged}
 use Rattle.lines.specs.Line.{isClean}
 use Rattle.lineforms.proofs.Judging.{integer-same}
-use Rattle.model.specs.Limits.{base}
+use Rattle.model.specs.Forms.{sheetLimits}
 use Rattle.model.specs.Meaning.{ByteLaw, TextLaw}
 use Rattle.grammar.specs.Items.{Text, Spelled, exactly, text, someText, truth, truthOrNone, integer, margin, label}
 use Rattle.grammar.specs.Says.{empty}
@@ -76,12 +76,13 @@ module _ (f : List ℕ) where
   some-taken r = text-judged longestText true (r .1) (r .1 .short) (λ e. r .0)
 
   -- a name, which is kept
-  pub name-spelled : (mandatory : Bool) → Tidy f → textJudged longestName mandatory f ≡ Passes → Spelled (exactly f) f
-  name-spelled mandatory t e = (refl, judged-text longestName mandatory (omega arith) t e)
+  pub name-spelled : (mandatory : Bool) → Tidy f → textJudged (sheetLimits .text) mandatory f ≡ Passes → Spelled (exactly f) f
+  name-spelled mandatory t e = (refl, judged-text (sheetLimits .text) mandatory (omega arith) t e)
 
-  pub name-taken : (mandatory : Bool) (n : List ℕ) → TextLaw base n → (mandatory ≡ true → 1 ≤ length n) → Spelled (exactly n) f → textJudged longestName mandatory f ≡ Passes
+  pub name-taken : (mandatory : Bool) (n : List ℕ) → TextLaw sheetLimits n → (mandatory ≡ true → 1 ≤ length n) → Spelled (exactly n) f
+      → textJudged (sheetLimits .text) mandatory f ≡ Passes
   name-taken mandatory n w s r =
-      text-judged longestName mandatory (r .1) (rw (r .0) (w .short)) (λ e. rw (r .0) (s e))
+      text-judged (sheetLimits .text) mandatory (r .1) (rw (r .0) (w .short)) (λ e. rw (r .0) (s e))
 
   -- the version
   pub version-spelled : Tidy f → versionJudged f ≡ Passes → Spelled (exactly version) f

@@ -11,13 +11,13 @@ use Rattle.text.specs.Blanks.{trim}
 use Rattle.text.specs.Keywords.{headerWord, recordWord, noneWord, parameterWord, keywordOf}
 use Rattle.text.specs.declared.keyword.Keyword.{Keyword}
 use Rattle.text.specs.declared.keyword.Keyword.the-variants as keyword
-use Rattle.model.specs.Limits.{base}
+use Rattle.model.specs.Forms.{sheetLimits}
 use Rattle.model.specs.Rules.{byteOk, textOk}
 use Rattle.model.specs.Meaning.{TextLaw}
 use Rattle.model.proofs.Meanings.{text-law}
 use Rattle.grammar.specs.Items.{Text}
 
-law-text : (t : List ℕ) → TextLaw base t → Text t
+law-text : (t : List ℕ) → TextLaw sheetLimits t → Text t
 law-text t h = record { short = omega (arith, h .short); each = h .each; begins = h .begins; ends = h .ends }
 
 -- the bytes of a keyword; no keyword has none
@@ -30,11 +30,11 @@ spoken keyword.Other = []
 
 pub spoken-text : (w : Keyword) → Text (spoken w)
 unfolding textOk byteOk every
-spoken-text keyword.Header = law-text headerWord (text-law base headerWord refl)
-spoken-text keyword.Record = law-text recordWord (text-law base recordWord refl)
-spoken-text keyword.Nothing = law-text noneWord (text-law base noneWord refl)
-spoken-text keyword.Parameter = law-text parameterWord (text-law base parameterWord refl)
-spoken-text keyword.Other = law-text [] (text-law base [] refl)
+spoken-text keyword.Header = law-text headerWord (text-law sheetLimits headerWord refl)
+spoken-text keyword.Record = law-text recordWord (text-law sheetLimits recordWord refl)
+spoken-text keyword.Nothing = law-text noneWord (text-law sheetLimits noneWord refl)
+spoken-text keyword.Parameter = law-text parameterWord (text-law sheetLimits parameterWord refl)
+spoken-text keyword.Other = law-text [] (text-law sheetLimits [] refl)
 
 -- a keyword, and not another line
 abbrev pub Spoken : Keyword → List ℕ → Type 0

@@ -9,7 +9,7 @@ use Rattle.lay.specs.Below.{tab}
 use Rattle.text.specs.Keywords.{headerWord, recordWord, noneWord, parameterWord}
 use Rattle.spell.specs.Texts.{version}
 use Rattle.model.specs.Content.{Content, Parameter, Sample, Component, Subframe, subframes}
-use Rattle.model.specs.Limits.{base}
+use Rattle.model.specs.Forms.{sheetLimits}
 use Rattle.model.specs.Lawful.{lawful}
 use Rattle.grammar.specs.Items.{Item, exactly, text, someText, truth, truthOrNone, integer, margin, time, delay, bits, bitsOrNone, label, seconds}
 use Rattle.grammar.specs.Written.{Written}
@@ -164,4 +164,4 @@ pub record Says (x : List ℕ) (c : Content) : Type 0 where
   pub list : parametersOf told ≡ c .parameters
   pub written : Written x (sheetLines c pairs told)
   pub short : length x ≤ 65536
-  pub lawful : lawful base c ≡ true
+  pub lawful : lawful sheetLimits c ≡ true

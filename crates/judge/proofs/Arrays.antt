@@ -9,8 +9,10 @@ use lib.Seq.{take-suc-set, length-take-le}
 use Rattle.lineforms.specs.declared.due.Form.{Form}
 use Rattle.lineforms.specs.declared.due.Form.the-variants.{Stray, Superframe, HeaderWord, HeaderLine, RecordWord, RecordLine, NoneWord, ParameterWord, NameLine, OpeningComponent, ComponentLine, TimeLine, SamplesEnd, SignedLine, RangeLine, SourceLine, LabelLine, SourceEnd, ParameterEnd}
 use Rattle.model.specs.Content.{Parameter, Subframe}
+use Rattle.model.specs.Forms.{sheetLimits}
 use Rattle.gather.specs.Book.{Book, grow, subframeOf, wordsOf, bitsOf}
 use Rattle.gather.specs.Ruling.{opens}
+use Rattle.judge.specs.Columns.{pairRows, parameterRows}
 use Rattle.judge.specs.Keeping.{row, wordsSaid, bitsSaid, openedBy}
 use Rattle.judge.specs.Names.{textAt, textsAt}
 use Rattle.judge.proofs.Growing.{length-snoc}
@@ -38,14 +40,14 @@ row-length f (p ∷ ps) = ap suc (row-length f ps)
 -- ---- a number of each parameter
 
 pub record Numbered (F : Parameter → ℕ) (ps : List Parameter) (xs : List ℕ) : Type 0 where
-  pub long : length xs ≡ 513
+  pub long : length xs ≡ parameterRows
   pub kept : take (length ps) xs ≡ row F ps
 
 module _ (F : Parameter → ℕ) (ps : List Parameter) (xs : List ℕ) (v : ℕ) (h : Numbered F ps xs) where
   numbered-same : Numbered F ps (set xs (length ps) v)
   numbered-same = record { long = length-set xs (length ps) v ∙ h .long; kept = take-set xs (length ps) v ∙ h .kept }
 
-  numbered-more : (p : Parameter) → length ps ≤ 512 → v ≡ F p → Numbered F (ps ++ (p ∷ [])) (set xs (length ps) v)
+  numbered-more : (p : Parameter) → length ps ≤ sheetLimits .parameters → v ≡ F p → Numbered F (ps ++ (p ∷ [])) (set xs (length ps) v)
   numbered-more p m e =
       record {
         long = length-set xs (length ps) v ∙ h .long;
@@ -55,7 +57,8 @@ module _ (F : Parameter → ℕ) (ps : List Parameter) (xs : List ℕ) (v : ℕ)
             ∙ (ap₂ (λ (l : List ℕ) (x : ℕ). l ++ (x ∷ [])) (h .kept) e ∙ sym (row-snoc F ps p)));
       }
 
-pub numbered-step : (f : Form) (l : List ℕ) (K : Book) (F : Parameter → ℕ) (xs : List ℕ) (v : ℕ) → Numbered F (K .parameters) xs → length (K .parameters) ≤ 512 → v ≡ F (K .opened) → Numbered F (grow f l K .parameters) (set xs (length (K .parameters)) v)
+pub numbered-step : (f : Form) (l : List ℕ) (K : Book) (F : Parameter → ℕ) (xs : List ℕ) (v : ℕ) → Numbered F (K .parameters) xs
+    → length (K .parameters) ≤ sheetLimits .parameters → v ≡ F (K .opened) → Numbered F (grow f l K .parameters) (set xs (length (K .parameters)) v)
 numbered-step Stray l K F xs v h m e = numbered-same F (K .parameters) xs v h
 numbered-step Superframe l K F xs v h m e = numbered-same F (K .parameters) xs v h
 numbered-step HeaderWord l K F xs v h m e = numbered-same F (K .parameters) xs v h
@@ -86,8 +89,8 @@ texts-snoc s (x ∷ us) [] a e h = absurd (omega arith)
 texts-snoc s (x ∷ us) (y ∷ es) a e h = ap (λ (l : List (List ℕ)). textAt s x y ∷ l) (texts-snoc s us es a e (omega arith))
 
 pub record Texted (s : List ℕ) (F : Parameter → List ℕ) (ps : List Parameter) (us es : List ℕ) : Type 0 where
-  pub starts : length us ≡ 513
-  pub ends : length es ≡ 513
+  pub starts : length us ≡ parameterRows
+  pub ends : length es ≡ parameterRows
   pub kept : textsAt s (take (length ps) us) (take (length ps) es) ≡ row F ps
 
 module _ (s : List ℕ) (F : Parameter → List ℕ) (ps : List Parameter) (us es : List ℕ) (a e : ℕ) (h : Texted s F ps us es) where
@@ -99,7 +102,8 @@ module _ (s : List ℕ) (F : Parameter → List ℕ) (ps : List Parameter) (us e
         kept = ap₂ (textsAt s) (take-set us (length ps) a) (take-set es (length ps) e) ∙ h .kept;
       }
 
-  texted-more : (p : Parameter) → length ps ≤ 512 → textAt s a e ≡ F p → Texted s F (ps ++ (p ∷ [])) (set us (length ps) a) (set es (length ps) e)
+  texted-more : (p : Parameter) → length ps ≤ sheetLimits .parameters → textAt s a e ≡ F p
+      → Texted s F (ps ++ (p ∷ [])) (set us (length ps) a) (set es (length ps) e)
   texted-more p m q =
       let n = length ps in
       let u : length (take n us) ≡ n = length-take-le n us (omega (arith, h .starts)) in
@@ -114,7 +118,9 @@ module _ (s : List ℕ) (F : Parameter → List ℕ) (ps : List Parameter) (us e
             ∙ (ap₂ (λ (l : List (List ℕ)) (x : List ℕ). l ++ (x ∷ [])) (h .kept) q ∙ sym (row-snoc F ps p))));
       }
 
-pub texted-step : (f : Form) (l : List ℕ) (K : Book) (s : List ℕ) (F : Parameter → List ℕ) (us es : List ℕ) (a e : ℕ) → Texted s F (K .parameters) us es → length (K .parameters) ≤ 512 → textAt s a e ≡ F (K .opened) → Texted s F (grow f l K .parameters) (set us (length (K .parameters)) a) (set es (length (K .parameters)) e)
+pub texted-step : (f : Form) (l : List ℕ) (K : Book) (s : List ℕ) (F : Parameter → List ℕ) (us es : List ℕ) (a e : ℕ) → Texted s F (K .parameters) us es
+    → length (K .parameters) ≤ sheetLimits .parameters → textAt s a e ≡ F (K .opened)
+    → Texted s F (grow f l K .parameters) (set us (length (K .parameters)) a) (set es (length (K .parameters)) e)
 texted-step Stray l K s F us es a e h m q = texted-same s F (K .parameters) us es a e h
 texted-step Superframe l K s F us es a e h m q = texted-same s F (K .parameters) us es a e h
 texted-step HeaderWord l K s F us es a e h m q = texted-same s F (K .parameters) us es a e h
@@ -148,8 +154,8 @@ bits-snoc [] p = refl
 bits-snoc (q ∷ ps) p = ap (λ (l : List ℕ). q .bits ∷ l) (bits-snoc ps p)
 
 pub record Paired (ps : List Subframe) (ws bs : List ℕ) : Type 0 where
-  pub long : length ws ≡ 33
-  pub longs : length bs ≡ 33
+  pub long : length ws ≡ pairRows
+  pub longs : length bs ≡ pairRows
   pub words : take (length ps) ws ≡ wordsOf ps
   pub bits : take (length ps) bs ≡ bitsOf ps
 
@@ -163,7 +169,8 @@ module _ (ps : List Subframe) (ws bs : List ℕ) (w b : ℕ) (h : Paired ps ws b
         bits = take-set bs (length ps) b ∙ h .bits;
       }
 
-  paired-more : (p : Subframe) → length ps ≤ 32 → w ≡ p .words → b ≡ p .bits → Paired (ps ++ (p ∷ [])) (set ws (length ps) w) (set bs (length ps) b)
+  paired-more : (p : Subframe) → length ps ≤ sheetLimits .subframes → w ≡ p .words → b ≡ p .bits
+      → Paired (ps ++ (p ∷ [])) (set ws (length ps) w) (set bs (length ps) b)
   paired-more p m e f =
       let n = length ps in
       record {
@@ -177,7 +184,8 @@ module _ (ps : List Subframe) (ws bs : List ℕ) (w b : ℕ) (h : Paired ps ws b
             ∙ (take-more-set bs n b (omega (arith, h .longs)) ∙ (ap₂ (λ (l : List ℕ) (x : ℕ). l ++ (x ∷ [])) (h .bits) f ∙ sym (bits-snoc ps p)));
       }
 
-pub paired-step : (f : Form) (l : List ℕ) (K : Book) (ws bs : List ℕ) → Paired (K .pairs) ws bs → length (K .pairs) ≤ 32 → Paired (grow f l K .pairs) (set ws (length (K .pairs)) (wordsSaid f l)) (set bs (length (K .pairs)) (bitsSaid f l))
+pub paired-step : (f : Form) (l : List ℕ) (K : Book) (ws bs : List ℕ) → Paired (K .pairs) ws bs → length (K .pairs) ≤ sheetLimits .subframes
+    → Paired (grow f l K .pairs) (set ws (length (K .pairs)) (wordsSaid f l)) (set bs (length (K .pairs)) (bitsSaid f l))
 paired-step Stray l K ws bs h m = paired-same (K .pairs) ws bs 0 0 h
 paired-step Superframe l K ws bs h m = paired-same (K .pairs) ws bs 0 0 h
 paired-step HeaderWord l K ws bs h m = paired-same (K .pairs) ws bs 0 0 h
@@ -201,7 +209,7 @@ paired-step ParameterEnd l K ws bs h m = paired-same (K .pairs) ws bs 0 0 h
 -- ---- the line of each `PARAMETER:` word
 
 pub record Marked (n : ℕ) (os ms : List ℕ) : Type 0 where
-  pub long : length ms ≡ 513
+  pub long : length ms ≡ parameterRows
   pub count : n ≡ length os
   pub kept : take n ms ≡ os
 
@@ -211,7 +219,7 @@ module _ (n k : ℕ) (os ms : List ℕ) (h : Marked n os ms) where
       let e : n + 0 ≡ n = omega arith in
       rw e (record { long = length-set ms n k ∙ h .long; count = h .count; kept = take-set ms n k ∙ h .kept })
 
-  marked-more : length os ≤ 512 → Marked (n + 1) (os ++ (k ∷ [])) (set ms n k)
+  marked-more : length os ≤ sheetLimits .parameters → Marked (n + 1) (os ++ (k ∷ [])) (set ms n k)
   marked-more m =
       record {
         long = length-set ms n k ∙ h .long;
@@ -240,7 +248,8 @@ opened-one LabelLine = omega arith
 opened-one SourceEnd = omega arith
 opened-one ParameterEnd = omega arith
 
-pub marked-step : (f : Form) (n k : ℕ) (os ms : List ℕ) → Marked n os ms → length os ≤ 512 → Marked (n + openedBy f) (opens f k os) (set ms n k)
+pub marked-step : (f : Form) (n k : ℕ) (os ms : List ℕ) → Marked n os ms → length os ≤ sheetLimits .parameters
+    → Marked (n + openedBy f) (opens f k os) (set ms n k)
 marked-step Stray n k os ms h m = marked-same n k os ms h
 marked-step Superframe n k os ms h m = marked-same n k os ms h
 marked-step HeaderWord n k os ms h m = marked-same n k os ms h

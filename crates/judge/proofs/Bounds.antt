@@ -7,29 +7,30 @@ use lib.ListN.{length}
 use Rattle.lineforms.specs.declared.due.Due.{Due}
 use Rattle.lineforms.specs.declared.due.Due.the-variants as due
 use Rattle.model.specs.Content.{Parameter, Subframe, noParameter}
-use Rattle.model.specs.Limits.{base}
+use Rattle.model.specs.Forms.{sheetLimits}
 use Rattle.model.specs.Meaning.{ParameterLaw}
 use Rattle.gather.specs.Book.{Book, samplesOf, componentsOf, allComponentsOf, samplesSoFar, componentsSoFar}
 use Rattle.gather.proofs.Rows.{Each}
 use Rattle.gather.proofs.Sound.{Fresh, Headed, Between, Opened, Sound}
-use Rattle.judge.specs.Counts.{textOf, tallyOf, Small}
+use Rattle.judge.specs.Counts.{textOf, tallyOf, mostCount, Small}
 use Rattle.judge.proofs.Standing.{Level, Within, Stands}
 
 pub record Few (K : Book) (os : List ℕ) : Type 0 where
-  pub pairs : length (K .pairs) ≤ 32
-  pub parameters : length (K .parameters) ≤ 512
-  pub opens : length os ≤ 512
-  pub samples : samplesSoFar K ≤ 4096
-  pub own : length (K .opened .samples) ≤ 64
-  pub components : componentsSoFar K ≤ 4096
-  pub parts : length (K .parts) ≤ 8
-  pub text : textOf (K .parameters) ≤ 98304
-  pub name : length (K .opened .name) ≤ 64
-  pub mnemonic : length (K .opened .mnemonic) ≤ 64
-  pub identification : length (K .opened .identification) ≤ 64
+  pub pairs : length (K .pairs) ≤ sheetLimits .subframes
+  pub parameters : length (K .parameters) ≤ sheetLimits .parameters
+  pub opens : length os ≤ sheetLimits .parameters
+  pub samples : samplesSoFar K ≤ sheetLimits .samples
+  pub own : length (K .opened .samples) ≤ sheetLimits .samplesEach
+  pub components : componentsSoFar K ≤ sheetLimits .components
+  pub parts : length (K .parts) ≤ sheetLimits .componentsEach
+  pub text : textOf (K .parameters) ≤ 3 * sheetLimits .text * sheetLimits .parameters
+  pub name : length (K .opened .name) ≤ sheetLimits .text
+  pub mnemonic : length (K .opened .mnemonic) ≤ sheetLimits .text
+  pub identification : length (K .opened .identification) ≤ sheetLimits .text
 
--- three texts of at most 64 bytes each
-text-few : (subs : List Subframe) (ps : List Parameter) → Each (ParameterLaw base subs) noParameter ps → textOf ps ≤ 192 * length ps
+-- three texts, each within its limit
+text-few : (subs : List Subframe) (ps : List Parameter) → Each (ParameterLaw sheetLimits subs) noParameter ps
+    → textOf ps ≤ 3 * sheetLimits .text * length ps
 unfolding textOf
 text-few subs [] h = omega arith
 text-few subs (p ∷ ps) h =
@@ -38,7 +39,7 @@ text-few subs (p ∷ ps) h =
     omega (arith, a .name .short, a .mnemonic .short, a .identification .short)
 
 -- no parameter, and none open
-few-none : (K : Book) (os : List ℕ) → Level K os → K .parameters ≡ [] → K .parts ≡ [] → length (K .pairs) ≤ 32 → Few K os
+few-none : (K : Book) (os : List ℕ) → Level K os → K .parameters ≡ [] → K .parts ≡ [] → length (K .pairs) ≤ sheetLimits .subframes → Few K os
 unfolding samplesOf componentsOf allComponentsOf textOf
 few-none K os v p q n =
     let c = ap length p in
@@ -57,12 +58,13 @@ few-none K os v p q n =
     }
 
 -- whole parameters, and none open
-few-between : (K : Book) (os : List ℕ) → Between K → K .opened ≡ noParameter → length os ≤ 512 → length (K .pairs) ≤ K .declared → Few K os
+few-between : (K : Book) (os : List ℕ) → Between K → K .opened ≡ noParameter → length os ≤ sheetLimits .parameters
+    → length (K .pairs) ≤ K .declared → Few K os
 unfolding componentsOf
 few-between K os h v c n =
     let t = text-few _ (K .parameters) (h .whole .each) in
-    let a : samplesOf (K .parameters) + 0 ≤ 4096 = omega (arith, h .fewSamples) in
-    let b : allComponentsOf (K .parameters) + 0 + 0 ≤ 4096 = omega (arith, h .fewComponents) in
+    let a : samplesOf (K .parameters) + 0 ≤ sheetLimits .samples = omega (arith, h .fewSamples) in
+    let b : allComponentsOf (K .parameters) + 0 + 0 ≤ sheetLimits .components = omega (arith, h .fewComponents) in
     record {
       pairs = omega (arith, h .ground .few);
       parameters = h .whole .few;
@@ -77,7 +79,7 @@ few-between K os h v c n =
       identification = rw v (omega arith);
     }
 
-few-opened : (K : Book) (os : List ℕ) → Opened K → Within K os → length (K .parts) ≤ 8 → Few K os
+few-opened : (K : Book) (os : List ℕ) → Opened K → Within K os → length (K .parts) ≤ sheetLimits .componentsEach → Few K os
 few-opened K os h v n =
     let t = text-few _ (K .parameters) (h .whole .each) in
     record {
@@ -100,7 +102,7 @@ few-fresh K os h v = few-none K os v (h .noParameters) (h .noParts) (rw (h .noPa
 few-headed : (K : Book) (os : List ℕ) → Headed K → Level K os → length (K .pairs) ≤ K .declared → Few K os
 few-headed K os h v n = few-none K os v (h .noParameters) (h .noParts) (omega (arith, h .few))
 
-none-open : (K : Book) → K .parts ≡ [] → length (K .parts) ≤ 8
+none-open : (K : Book) → K .parts ≡ [] → length (K .parts) ≤ sheetLimits .componentsEach
 none-open K e = rw e (omega arith)
 
 pub few : (d : Due) (K : Book) (os : List ℕ) → Sound d K → Stands d K os → Few K os
@@ -122,7 +124,7 @@ few due.AfterSourceBlank K os h v = few-opened K os (h .closed .opened) v (none-
 few due.NextParameter K os h v = few-between K os h (v .level .shut) (omega (arith, v .level .count, h .whole .few)) (v .few)
 few due.Nothing K os h v = few-between K os h (v .level .shut) (omega (arith, v .level .count, h .whole .few)) (v .few)
 
-pub small : (K : Book) (os : List ℕ) → Few K os → Small (tallyOf K) 100000
+pub small : (K : Book) (os : List ℕ) → Few K os → Small (tallyOf K) mostCount
 small K os h =
     record {
       pairs = omega (arith, h .pairs);

@@ -5,7 +5,7 @@ use Prim.Native.Nat.{ℕ, zero, suc, _+_, _≤_, _<_}
 use native.Mathlib.Omega.{arith}
 use lib.ListN.{length, take, drop, set, getD, length-set, length-drop}
 use lib.Seq.{length-take-le, take-take, take-set-le, take-set-lt, drop-set-lt, drop-set-add}
-use Rattle.judge.specs.Columns.{column, rowSet}
+use Rattle.judge.specs.Columns.{column, begins, rowSet}
 
 pub column-length : (w a : ℕ) (xs : List ℕ) → a + w ≤ length xs → length (column w a xs) ≡ w
 unfolding column
@@ -36,11 +36,6 @@ store-behind w a i d xs v e h =
 pub row-length : (w p : ℕ) (vs : List ℕ) (a : ℕ) (xs : List ℕ) → length (rowSet w a p vs xs) ≡ length xs
 row-length w p [] a xs = refl
 row-length w p (v ∷ vs) a xs = row-length w p vs (a + w) (set xs (a + p) v) ∙ length-set xs (a + p) v
-
--- where column k from a on begins
-abbrev pub begins : ℕ → ℕ → ℕ → ℕ
-begins w a zero = a
-begins w a (suc k) = begins w (a + w) k
 
 begins-from : (w a k : ℕ) → a ≤ begins w a k
 begins-from w a zero = omega arith

@@ -14,6 +14,7 @@ use Rattle.text.specs.declared.refusal.Judged.the-variants.{Passes, Refused}
 use Rattle.lineforms.specs.LineFields.{componentFields}
 use Rattle.lineforms.specs.declared.due.Form.{Form}
 use Rattle.lineforms.specs.declared.due.Form.the-variants.{Stray, Superframe, HeaderWord, HeaderLine, RecordWord, RecordLine, NoneWord, ParameterWord, NameLine, OpeningComponent, ComponentLine, TimeLine, SamplesEnd, SignedLine, RangeLine, SourceLine, LabelLine, SourceEnd, ParameterEnd}
+use Rattle.model.specs.Forms.{sheetLimits}
 use Rattle.judge.specs.LineTests.{roomForComponentIn, formTests, Fitting}
 use Rattle.judge.specs.Sampling.{Apt}
 use Rattle.judge.specs.declared.sampling.Sampling.{Sampling}
@@ -36,11 +37,11 @@ either-none : (a b : Bool) (r : Refusal) → when (a || b) r ≡ Passes → a �
 either-none true b r e = never-passes r e
 either-none false b r e = refl
 
-room-left : (x : Tally) (ws bs l : List ℕ) → formTests ComponentLine x ws bs l ≡ Passes → x .parts < 8
+room-left : (x : Tally) (ws bs l : List ℕ) → formTests ComponentLine x ws bs l ≡ Passes → x .parts < sheetLimits .componentsEach
 unfolding roomForComponentIn
 room-left x ws bs l e =
-    leb-false 8 (x .parts)
-    (either-none (leb 8 (x .parts)) (leb 4096 (x .components)) TooMany
+    leb-false (sheetLimits .componentsEach) (x .parts)
+    (either-none (leb (sheetLimits .componentsEach) (x .parts)) (leb (sheetLimits .components) (x .components)) TooMany
     (else-0 (roomForComponentIn x) (first (componentFields (x .declared) ws bs l)) (component-tests x ws bs l ∙ e)))
 
 pub fitting-apt : (f : Form) (x : Tally) (g : Sampling) (ws bs l : List ℕ) → Fitting f x g → formTests f x ws bs l ≡ Passes → Apt f g

@@ -2,7 +2,7 @@
 use mathlib.Core.Path.{_≡_, refl, sym, ap, ap₂, _∙_}
 use mathlib.Core.Bool.{Bool, true, false}
 use mathlib.Core.List.{List, []}
-use Prim.Native.Nat.{ℕ, _+_, _≤_, _<_}
+use Prim.Native.Nat.{ℕ, _+_, _*_, _≤_, _<_}
 use native.Mathlib.Omega.{arith}
 use lib.ListN.{length, take, drop}
 use Rattle.text.specs.declared.refusal.Refusal.{Refusal}
@@ -14,12 +14,13 @@ use Rattle.lines.proofs.Cuts.{found-refused}
 use Rattle.lineforms.specs.declared.due.Due.{Due}
 use Rattle.lineforms.specs.declared.due.Due.the-variants as due
 use Rattle.model.specs.Content.{Parameter, subframes}
+use Rattle.model.specs.Forms.{sheetLimits}
 use Rattle.gather.specs.Book.{Book, emptyBook, contentOf, wordsOf, bitsOf}
 use Rattle.gather.specs.Ruling.{identified}
 use Rattle.gather.proofs.Sound.{Between, Sound}
-use Rattle.judge.specs.Counts.{tallyOf, Small}
+use Rattle.judge.specs.Counts.{tallyOf, mostCount, Small}
 use Rattle.judge.specs.Keeping.{row, flagOf, goodOf, homeOf}
-use Rattle.judge.specs.Columns.{column}
+use Rattle.judge.specs.Columns.{pairRows, parameterRows, begins, pairColumn, keptColumn, firstKept}
 use Rattle.judge.specs.Names.{textsAt}
 use Rattle.judge.specs.Turns.{Starting}
 use Rattle.judge.specs.Walk.{verdictOf, mayEnd, identifiedIn, endedIn, Ended, Room}
@@ -44,33 +45,42 @@ pub record Judging (s ps ts ns ks : List ℕ) (c : Cursor) (t : State) : Type 0 
   pub sound : Sound (t .due) book
   pub stands : Stands (t .due) book opens
   pub says : answer (t .due) book opens (c .number) (linesOf (drop (c .at) s)) ≡ answerOf s
-  pub pairs : length ps ≡ 66
-  pub texts : length ts ≡ 3078
-  pub numbers : length ns ≡ 2052
-  pub paired : Paired (book .pairs) (column 33 0 ps) (column 33 33 ps)
-  pub names : Texted s (λ p. p .name) (book .parameters) (column 513 0 ts) (column 513 513 ts)
-  pub mnemonics : Texted s (λ p. p .mnemonic) (book .parameters) (column 513 1026 ts) (column 513 1539 ts)
-  pub identifications : Texted s (λ p. p .identification) (book .parameters) (column 513 2052 ts) (column 513 2565 ts)
+  pub pairs : length ps ≡ 2 * pairRows
+  pub texts : length ts ≡ 6 * parameterRows
+  pub numbers : length ns ≡ 4 * parameterRows
+  pub paired : Paired (book .pairs) (pairColumn 0 ps) (pairColumn 1 ps)
+  pub names : Texted s (λ p. p .name) (book .parameters) (keptColumn 0 ts) (keptColumn 1 ts)
+  pub mnemonics : Texted s (λ p. p .mnemonic) (book .parameters) (keptColumn 2 ts) (keptColumn 3 ts)
+  pub identifications : Texted s (λ p. p .identification) (book .parameters) (keptColumn 4 ts) (keptColumn 5 ts)
   pub here : Here s (t .here) (book .opened)
-  pub flags : Numbered flagOf (book .parameters) (column 513 0 ns)
-  pub goods : Numbered goodOf (book .parameters) (column 513 513 ns)
-  pub homes : Numbered homeOf (book .parameters) (column 513 1026 ns)
-  pub values : Numbered (λ p. p .value) (book .parameters) (column 513 1539 ns)
+  pub flags : Numbered flagOf (book .parameters) (keptColumn 0 ns)
+  pub goods : Numbered goodOf (book .parameters) (keptColumn 1 ns)
+  pub homes : Numbered homeOf (book .parameters) (keptColumn 2 ns)
+  pub values : Numbered (λ p. p .value) (book .parameters) (keptColumn 3 ns)
   pub marked : Marked (t .begun) opens ks
   pub sampled : Sampled (t .sample) book
 
-none-kept : (F : Parameter → ℕ) (a : ℕ) (xs : List ℕ) → a + 513 ≤ length xs → Numbered F [] (column 513 a xs)
+-- column k is within the list
+abbrev Holds : ℕ → List ℕ → Type 0
+Holds k xs = begins parameterRows 0 k + parameterRows ≤ length xs
+
+none-kept : (F : Parameter → ℕ) (k : ℕ) (xs : List ℕ) → Holds k xs → Numbered F [] (keptColumn k xs)
 unfolding row
-none-kept F a xs h = record { long = column-length 513 a xs h; kept = refl }
+none-kept F k xs h = record { long = column-length parameterRows (begins parameterRows 0 k) xs h; kept = refl }
 
-none-texted : (s : List ℕ) (F : Parameter → List ℕ) (a b : ℕ) (xs : List ℕ) → a + 513 ≤ length xs → b + 513 ≤ length xs → Texted s F [] (column 513 a xs) (column 513 b xs)
+none-texted : (s : List ℕ) (F : Parameter → List ℕ) (j k : ℕ) (xs : List ℕ) → Holds j xs → Holds k xs → Texted s F [] (keptColumn j xs) (keptColumn k xs)
 unfolding row textsAt
-none-texted s F a b xs h k = record { starts = column-length 513 a xs h; ends = column-length 513 b xs k; kept = refl }
+none-texted s F j k xs a b =
+    record {
+      starts = column-length parameterRows (begins parameterRows 0 j) xs a;
+      ends = column-length parameterRows (begins parameterRows 0 k) xs b;
+      kept = refl;
+    }
 
-none-paired : (xs : List ℕ) → length xs ≡ 66 → Paired [] (column 33 0 xs) (column 33 33 xs)
+none-paired : (xs : List ℕ) → length xs ≡ 2 * pairRows → Paired [] (pairColumn 0 xs) (pairColumn 1 xs)
 unfolding wordsOf bitsOf
 none-paired xs e =
-    record { long = column-length 33 0 xs (omega arith); longs = column-length 33 33 xs (omega arith); words = refl; bits = refl }
+    record { long = column-length pairRows 0 xs (omega arith); longs = column-length pairRows pairRows xs (omega arith); words = refl; bits = refl }
 
 pub judging-start : {s ps ts ns ks : List ℕ} {t : State} → Room s ps ts ns ks → Starting t → Judging s ps ts ns ks (record { at = 0; number = 0 }) t
 judging-start {s} {ps} {ts} {ns} {ks} {t} r e =
@@ -86,14 +96,14 @@ judging-start {s} {ps} {ts} {ns} {ks} {t} r e =
       texts = r .texts;
       numbers = r .numbers;
       paired = none-paired ps (r .pairs);
-      names = none-texted s (λ p. p .name) 0 513 ts (omega (arith, r .texts)) (omega (arith, r .texts));
-      mnemonics = none-texted s (λ p. p .mnemonic) 1026 1539 ts (omega (arith, r .texts)) (omega (arith, r .texts));
-      identifications = none-texted s (λ p. p .identification) 2052 2565 ts (omega (arith, r .texts)) (omega (arith, r .texts));
+      names = none-texted s (λ p. p .name) 0 1 ts (omega (arith, r .texts)) (omega (arith, r .texts));
+      mnemonics = none-texted s (λ p. p .mnemonic) 2 3 ts (omega (arith, r .texts)) (omega (arith, r .texts));
+      identifications = none-texted s (λ p. p .identification) 4 5 ts (omega (arith, r .texts)) (omega (arith, r .texts));
       here = rw (e .here) (record { name = no-text s; mnemonic = no-text s; identification = no-text s });
       flags = none-kept flagOf 0 ns (omega (arith, r .numbers));
-      goods = none-kept goodOf 513 ns (omega (arith, r .numbers));
-      homes = none-kept homeOf 1026 ns (omega (arith, r .numbers));
-      values = none-kept (λ p. p .value) 1539 ns (omega (arith, r .numbers));
+      goods = none-kept goodOf 1 ns (omega (arith, r .numbers));
+      homes = none-kept homeOf 2 ns (omega (arith, r .numbers));
+      values = none-kept (λ p. p .value) 3 ns (omega (arith, r .numbers));
       marked = record { long = r .marks; count = e .begun; kept = rw (e .begun) refl };
       sampled = sampled-none (t .sample) emptyBook (e .sample) refl refl;
     }
@@ -127,16 +137,16 @@ module _ {s ps ts ns ks : List ℕ} {c : Cursor} {t : State} (w : Judging s ps t
   pub judging-few : Few (w .book) (w .opens)
   judging-few = few (t .due) (w .book) (w .opens) (w .sound) (w .stands)
 
-  pub judging-pairs : t .counts .pairs ≤ 32
+  pub judging-pairs : t .counts .pairs ≤ sheetLimits .subframes
   judging-pairs = rw (w .mine) (judging-few .pairs)
 
-  pub judging-parameters : t .counts .parameters ≤ 512
+  pub judging-parameters : t .counts .parameters ≤ sheetLimits .parameters
   judging-parameters = rw (w .mine) (judging-few .parameters)
 
-  pub judging-marks : t .begun ≤ 512
+  pub judging-marks : t .begun ≤ sheetLimits .parameters
   judging-marks = omega (arith, w .marked .count, judging-few .opens)
 
-  pub judging-small : Small (t .counts) 100000
+  pub judging-small : Small (t .counts) mostCount
   judging-small = rw (w .mine) (small (w .book) (w .opens) judging-few)
 
   pub judging-ended : Ended t ns ks
@@ -153,20 +163,27 @@ module _ {s ps ts ns ks : List ℕ} {c : Cursor} {t : State} (w : Judging s ps t
   counted : t .counts .parameters ≡ length (w .book .parameters)
   counted = ap (λ (y : Tally). y .parameters) (w .mine)
 
-  kept : (F : Parameter → ℕ) (a : ℕ) → Numbered F (w .book .parameters) (column 513 a ns) → take (t .counts .parameters) (drop a ns) ≡ row F (w .book .parameters)
-  kept F a e = first-rows 513 a ns (t .counts .parameters) (length (w .book .parameters)) counted (omega (arith, judging-parameters)) ∙ e .kept
+  kept : (F : Parameter → ℕ) (k : ℕ) → Numbered F (w .book .parameters) (keptColumn k ns) → firstKept k (t .counts .parameters) ns ≡ row F (w .book .parameters)
+  kept F k e =
+      first-rows parameterRows (begins parameterRows 0 k) ns (t .counts .parameters) (length (w .book .parameters)) counted
+      (omega (arith, judging-parameters))
+      ∙ e .kept
 
   -- all lines stand
   rests : length s ≤ c .at → mayEnd (t .due) ≡ true
-      → identifiedIn (t .counts) (take (t .counts .parameters) ns) (take (t .counts .parameters) (drop 513 ns)) (take (t .counts .parameters) (drop 1026 ns)) (take (t .counts .parameters) (drop 1539 ns)) (take (t .counts .parameters) ks) ≡ answerOf s
+      → (let p = t .counts .parameters in
+      identifiedIn (t .counts) (firstKept 0 p ns) (firstKept 1 p ns) (firstKept 2 p ns) (firstKept 3 p ns) (take p ks)) ≡ answerOf s
   rests l e =
       let K = w .book in
       let x = t .counts in
       let r = at-rest (t .due) K (w .opens) e (w .sound) (w .stands) in
       let m : take (x .parameters) ks ≡ w .opens = ap (λ (k : ℕ). take k ks) (counted ∙ (sym (r .resting .level .count) ∙ sym (w .marked .count))) ∙ w .marked .kept in
       let z : x .declared ≡ subframes (contentOf K) = ap (λ (y : Tally). y .declared) (w .mine) ∙ sym (r .between .ground .long) in
-      ap₂ (λ (a b : List ℕ). identifiedIn x a b (take (x .parameters) (drop 1026 ns)) (take (x .parameters) (drop 1539 ns)) (take (x .parameters) ks)) (kept flagOf 0 (w .flags)) (kept goodOf 513 (w .goods))
-      ∙ (ap₂ (λ (a b : List ℕ). identifiedIn x (row flagOf (K .parameters)) (row goodOf (K .parameters)) a b (take (x .parameters) ks)) (kept homeOf 1026 (w .homes)) (kept (λ p. p .value) 1539 (w .values))
+      ap₂ (λ (a b : List ℕ). identifiedIn x a b (firstKept 2 (x .parameters) ns) (firstKept 3 (x .parameters) ns) (take (x .parameters) ks))
+      (kept flagOf 0 (w .flags))
+      (kept goodOf 1 (w .goods))
+      ∙ (ap₂ (λ (a b : List ℕ). identifiedIn x (row flagOf (K .parameters)) (row goodOf (K .parameters)) a b (take (x .parameters) ks))
+      (kept homeOf 2 (w .homes)) (kept (λ p. p .value) 3 (w .values))
       ∙ (ap (identifiedIn x (row flagOf (K .parameters)) (row goodOf (K .parameters)) (row homeOf (K .parameters)) (row (λ p. p .value) (K .parameters))) m
       ∙ (identified-is (contentOf K) x (w .opens) counted z
       ∙ (ap (verdictOf (identified (contentOf K) (w .opens))) (w .mine)

@@ -2,7 +2,7 @@
 use mathlib.Core.Path.{_≡_, sym, ap, ap₂, _∙_}
 use mathlib.Core.Bool.{Bool, true, cond}
 use mathlib.Core.List.{List, _∷_}
-use Prim.Native.Nat.{ℕ, _+_, _-_, _≤_, _<_}
+use Prim.Native.Nat.{ℕ, suc, _+_, _-_, _≤_, _<_}
 use native.Mathlib.Omega.{arith}
 use lib.ListN.{length, take, drop, set, getD, length-take}
 use Rattle.text.specs.Refusals.{first, orElse}
@@ -25,7 +25,7 @@ use Rattle.gather.proofs.Sound.{Sound, Told}
 use Rattle.gather.proofs.Tellings.{told}
 use Rattle.gather.proofs.Steps.{sound-step}
 use Rattle.judge.specs.Counts.{tallyOf, countedOf}
-use Rattle.judge.specs.Columns.{column, rowSet, pairRow, textRow, numberRow}
+use Rattle.judge.specs.Columns.{pairRows, parameterRows, begins, pairColumn, keptColumn, firstPairs, firstKept, pairSet, keptSet, pairRow, textRow, numberRow}
 use Rattle.judge.specs.Keeping.{row, flagOf, isGood, goodOf, homeOf, goodIn}
 use Rattle.judge.specs.LineTests.{formTests, Fitting}
 use Rattle.judge.specs.Names.{textAt, textsAt, textsIn, namesIn}
@@ -35,7 +35,7 @@ use Rattle.judge.specs.declared.sampling.Sampling.{Sampling}
 use Rattle.judge.specs.declared.tally.Tally.{Tally}
 use Rattle.judge.specs.declared.turn.State.{State}
 use Rattle.judge.specs.declared.walk.Verdict.the-variants as verdict
-use Rattle.judge.proofs.ColumnLaws.{first-rows, row-length, begins, row-column}
+use Rattle.judge.proofs.ColumnLaws.{first-rows, row-length, row-column}
 use Rattle.judge.proofs.Growing.{Fresh, tally-grow}
 use Rattle.judge.proofs.TestLaws.{tests-gathered}
 use Rattle.judge.proofs.FittingLaws.{else-0, fitting-apt}
@@ -106,25 +106,29 @@ module _ {s ps ts ns ks : List ℕ} {c : Cursor} {t : State} (w : Judging s ps t
   parameters-is : t .counts .parameters ≡ length (K .parameters)
   parameters-is = ap (λ (y : Tally). y .parameters) (w .mine)
 
-  pair-rows : (a : ℕ) → take (t .counts .pairs) (drop a ps) ≡ take (length (K .pairs)) (column 33 a ps)
-  pair-rows a = first-rows 33 a ps (t .counts .pairs) (length (K .pairs)) pairs-is (omega (arith, judging-pairs w))
+  pair-rows : (k : ℕ) → firstPairs k (t .counts .pairs) ps ≡ take (length (K .pairs)) (pairColumn k ps)
+  pair-rows k = first-rows pairRows (begins pairRows 0 k) ps (t .counts .pairs) (length (K .pairs)) pairs-is (omega (arith, judging-pairs w))
 
-  text-rows : (a : ℕ) → take (t .counts .parameters) (drop a ts) ≡ take (length (K .parameters)) (column 513 a ts)
-  text-rows a = first-rows 513 a ts (t .counts .parameters) (length (K .parameters)) parameters-is (omega (arith, judging-parameters w))
+  text-rows : (k : ℕ) → firstKept k (t .counts .parameters) ts ≡ take (length (K .parameters)) (keptColumn k ts)
+  text-rows k =
+      first-rows parameterRows (begins parameterRows 0 k) ts (t .counts .parameters) (length (K .parameters)) parameters-is
+      (omega (arith, judging-parameters w))
 
-  form-is : formTests f (t .counts) (take (t .counts .pairs) ps) (take (t .counts .pairs) (drop 33 ps)) l ≡ first (dueTest f ∷ roomTest f K ∷ fieldTests f K l)
+  form-is : formTests f (t .counts) (firstPairs 0 (t .counts .pairs) ps) (firstPairs 1 (t .counts .pairs) ps) l ≡ first (dueTest f ∷ roomTest f K ∷ fieldTests f K l)
   form-is =
-      ap₂ (λ (a b : List ℕ). formTests f (t .counts) a b l) (pair-rows 0 ∙ w .paired .words) (pair-rows 33 ∙ w .paired .bits)
+      ap₂ (λ (a b : List ℕ). formTests f (t .counts) a b l) (pair-rows 0 ∙ w .paired .words) (pair-rows 1 ∙ w .paired .bits)
       ∙ (ap (λ (y : Tally). formTests f y (wordsOf (K .pairs)) (bitsOf (K .pairs)) l) (w .mine) ∙ tests-gathered f l K)
 
-  kept-texts : (F : Parameter → List ℕ) (a b : ℕ) → Texted s F (K .parameters) (column 513 a ts) (column 513 b ts)
-      → textsAt s (take (t .counts .parameters) (drop a ts)) (take (t .counts .parameters) (drop b ts)) ≡ row F (K .parameters)
-  kept-texts F a b h = ap₂ (textsAt s) (text-rows a) (text-rows b) ∙ h .kept
+  kept-texts : (F : Parameter → List ℕ) (k : ℕ) → Texted s F (K .parameters) (keptColumn k ts) (keptColumn (suc k) ts)
+      → textsIn s k (t .counts .parameters) ts ≡ row F (K .parameters)
+  kept-texts F k h = ap₂ (textsAt s) (text-rows k) (text-rows (suc k)) ∙ h .kept
 
-  texts-is : namesIn f (textsIn s 0 (t .counts .parameters) ts) (textsIn s 1026 (t .counts .parameters) ts) (textsIn s 2052 (t .counts .parameters) ts) l ≡ namesTest f K l
+  texts-is : namesIn f (textsIn s 0 (t .counts .parameters) ts) (textsIn s 2 (t .counts .parameters) ts) (textsIn s 4 (t .counts .parameters) ts) l ≡ namesTest f K l
   texts-is =
-      ap₂ (λ (a b : List (List ℕ)). namesIn f a b (textsIn s 2052 (t .counts .parameters) ts) l) (kept-texts (λ p. p .name) 0 513 (w .names)) (kept-texts (λ p. p .mnemonic) 1026 1539 (w .mnemonics))
-      ∙ (ap (λ (a : List (List ℕ)). namesIn f (row (λ p. p .name) (K .parameters)) (row (λ p. p .mnemonic) (K .parameters)) a l) (kept-texts (λ p. p .identification) 2052 2565 (w .identifications))
+      ap₂ (λ (a b : List (List ℕ)). namesIn f a b (textsIn s 4 (t .counts .parameters) ts) l)
+      (kept-texts (λ p. p .name) 0 (w .names)) (kept-texts (λ p. p .mnemonic) 2 (w .mnemonics))
+      ∙ (ap (λ (a : List (List ℕ)). namesIn f (row (λ p. p .name) (K .parameters)) (row (λ p. p .mnemonic) (K .parameters)) a l)
+      (kept-texts (λ p. p .identification) 4 (w .identifications))
       ∙ names-is f l K)
 
   tests-are : judgedIn f s l t ps ts ≡ orElse (orElse (first (dueTest f ∷ roomTest f K ∷ fieldTests f K l)) (sampleTest f K l)) (namesTest f K l)
@@ -134,10 +138,10 @@ module _ {s ps ts ns ks : List ℕ} {c : Cursor} {t : State} (w : Judging s ps t
   passed-apt : judgedIn f s l t ps ts ≡ judged.Passes → Apt f (t .sample)
   unfolding judgedIn
   passed-apt r =
-      let a = formTests f (t .counts) (take (t .counts .pairs) ps) (take (t .counts .pairs) (drop 33 ps)) l in
+      let a = formTests f (t .counts) (firstPairs 0 (t .counts .pairs) ps) (firstPairs 1 (t .counts .pairs) ps) l in
       let b = sampleIn f l (t .sample) (t .counts .own) in
-      fitting-apt f (t .counts) (t .sample) (take (t .counts .pairs) ps) (take (t .counts .pairs) (drop 33 ps)) l judging-fitting
-      (else-0 a b (else-0 (orElse a b) (namesIn f (textsIn s 0 (t .counts .parameters) ts) (textsIn s 1026 (t .counts .parameters) ts) (textsIn s 2052 (t .counts .parameters) ts) l) r))
+      fitting-apt f (t .counts) (t .sample) (firstPairs 0 (t .counts .pairs) ps) (firstPairs 1 (t .counts .pairs) ps) l judging-fitting
+      (else-0 a b (else-0 (orElse a b) (namesIn f (textsIn s 0 (t .counts .parameters) ts) (textsIn s 2 (t .counts .parameters) ts) (textsIn s 4 (t .counts .parameters) ts) l) r))
 
   module _ {st en : ℕ} {nx : Cursor} (k : Next s c st en nx) (p : l ≡ take (en - st) (drop st s)) where
     cut : linesOf (drop (c .at) s) ≡ line l (linesOf (drop (nx .at) s))
@@ -189,24 +193,38 @@ module _ {s ps ts ns ks : List ℕ} {c : Cursor} {t : State} (w : Judging s ps t
       home-here = w .sampled .whole .lies
 
       -- a row behind the pairs, or behind the parameters
-      pair-stored : (vs : List ℕ) (i : ℕ) → i < length vs → column 33 (begins 33 0 i) (rowSet 33 0 (t .counts .pairs) vs ps) ≡ set (column 33 (begins 33 0 i) ps) (length (K .pairs)) (getD vs i 0)
-      pair-stored vs i h = row-column 33 (t .counts .pairs) (omega (arith, judging-pairs w)) vs 0 ps i h ∙ ap (λ (q : ℕ). set (column 33 (begins 33 0 i) ps) q (getD vs i 0)) pairs-is
+      pair-stored : (vs : List ℕ) (i : ℕ) → i < length vs
+          → pairColumn i (pairSet (t .counts .pairs) vs ps) ≡ set (pairColumn i ps) (length (K .pairs)) (getD vs i 0)
+      pair-stored vs i h =
+          row-column pairRows (t .counts .pairs) (omega (arith, judging-pairs w)) vs 0 ps i h
+          ∙ ap (λ (q : ℕ). set (pairColumn i ps) q (getD vs i 0)) pairs-is
 
-      stored : (xs vs : List ℕ) (i : ℕ) → i < length vs → column 513 (begins 513 0 i) (rowSet 513 0 (t .counts .parameters) vs xs) ≡ set (column 513 (begins 513 0 i) xs) (length (K .parameters)) (getD vs i 0)
-      stored xs vs i h = row-column 513 (t .counts .parameters) (omega (arith, judging-parameters w)) vs 0 xs i h ∙ ap (λ (q : ℕ). set (column 513 (begins 513 0 i) xs) q (getD vs i 0)) parameters-is
+      stored : (xs vs : List ℕ) (i : ℕ) → i < length vs
+          → keptColumn i (keptSet (t .counts .parameters) vs xs) ≡ set (keptColumn i xs) (length (K .parameters)) (getD vs i 0)
+      stored xs vs i h =
+          row-column parameterRows (t .counts .parameters) (omega (arith, judging-parameters w)) vs 0 xs i h
+          ∙ ap (λ (q : ℕ). set (keptColumn i xs) q (getD vs i 0)) parameters-is
 
-      number-kept : (F : Parameter → ℕ) (i : ℕ) → i < 4 → Numbered F (K .parameters) (column 513 (begins 513 0 i) ns) → getD (numberRow (t .counts) (t .sample)) i 0 ≡ F (K .opened)
-          → Numbered F (grow f l K .parameters) (column 513 (begins 513 0 i) (rowSet 513 0 (t .counts .parameters) (numberRow (t .counts) (t .sample)) ns))
-      number-kept F i h n q = rw (stored ns (numberRow (t .counts) (t .sample)) i h) (numbered-step f l K F (column 513 (begins 513 0 i) ns) _ n (judging-few w .parameters) q)
+      number-kept : (F : Parameter → ℕ) (i : ℕ) → i < 4 → Numbered F (K .parameters) (keptColumn i ns)
+          → getD (numberRow (t .counts) (t .sample)) i 0 ≡ F (K .opened)
+          → Numbered F (grow f l K .parameters) (keptColumn i (keptSet (t .counts .parameters) (numberRow (t .counts) (t .sample)) ns))
+      number-kept F i h n q = rw (stored ns (numberRow (t .counts) (t .sample)) i h) (numbered-step f l K F (keptColumn i ns) _ n (judging-few w .parameters) q)
 
-      text-kept : (F : Parameter → List ℕ) (i j : ℕ) → i < 6 → j < 6 → Texted s F (K .parameters) (column 513 (begins 513 0 i) ts) (column 513 (begins 513 0 j) ts) → textAt s (getD (textRow (t .here)) i 0) (getD (textRow (t .here)) j 0) ≡ F (K .opened)
-          → Texted s F (grow f l K .parameters) (column 513 (begins 513 0 i) (rowSet 513 0 (t .counts .parameters) (textRow (t .here)) ts)) (column 513 (begins 513 0 j) (rowSet 513 0 (t .counts .parameters) (textRow (t .here)) ts))
-      text-kept F i j h m n q = rw (stored ts (textRow (t .here)) i h, stored ts (textRow (t .here)) j m) (texted-step f l K s F (column 513 (begins 513 0 i) ts) (column 513 (begins 513 0 j) ts) _ _ n (judging-few w .parameters) q)
+      text-kept : (F : Parameter → List ℕ) (i j : ℕ) → i < 6 → j < 6 → Texted s F (K .parameters) (keptColumn i ts) (keptColumn j ts)
+          → textAt s (getD (textRow (t .here)) i 0) (getD (textRow (t .here)) j 0) ≡ F (K .opened)
+          → Texted s F (grow f l K .parameters) (keptColumn i (keptSet (t .counts .parameters) (textRow (t .here)) ts)) (keptColumn j (keptSet (t .counts .parameters) (textRow (t .here)) ts))
+      text-kept F i j h m n q =
+          rw (stored ts (textRow (t .here)) i h, stored ts (textRow (t .here)) j m)
+          (texted-step f l K s F (keptColumn i ts) (keptColumn j ts) _ _ n (judging-few w .parameters) q)
 
-      pair-kept : Paired (grow f l K .pairs) (column 33 0 (rowSet 33 0 (t .counts .pairs) (pairRow f l) ps)) (column 33 33 (rowSet 33 0 (t .counts .pairs) (pairRow f l) ps))
-      pair-kept = rw (pair-stored (pairRow f l) 0 (omega arith), pair-stored (pairRow f l) 1 (omega arith)) (paired-step f l K (column 33 0 ps) (column 33 33 ps) (w .paired) (judging-few w .pairs))
+      pair-kept : Paired (grow f l K .pairs) (pairColumn 0 (pairSet (t .counts .pairs) (pairRow f l) ps)) (pairColumn 1 (pairSet (t .counts .pairs) (pairRow f l) ps))
+      pair-kept =
+          rw (pair-stored (pairRow f l) 0 (omega arith), pair-stored (pairRow f l) 1 (omega arith))
+          (paired-step f l K (pairColumn 0 ps) (pairColumn 1 ps) (w .paired) (judging-few w .pairs))
 
-      pub judging-next : {qs us ms : List ℕ} {r′ : State} → qs ≡ rowSet 33 0 (t .counts .pairs) (pairRow f l) ps → us ≡ rowSet 513 0 (t .counts .parameters) (textRow (t .here)) ts → ms ≡ rowSet 513 0 (t .counts .parameters) (numberRow (t .counts) (t .sample)) ns → Gone f l st t r′
+      pub judging-next : {qs us ms : List ℕ} {r′ : State} → qs ≡ pairSet (t .counts .pairs) (pairRow f l) ps
+          → us ≡ keptSet (t .counts .parameters) (textRow (t .here)) ts
+          → ms ≡ keptSet (t .counts .parameters) (numberRow (t .counts) (t .sample)) ns → Gone f l st t r′
           → Judging s qs us ms (set ks (t .begun) (c .number + 1)) nx r′
       judging-next {qs} {us} {ms} {r′} eq eu em g =
           let inside : st + (en - st) ≤ length s = omega (arith, k .ordered, k .ends, k .ready .inside) in
@@ -219,9 +237,9 @@ module _ {s ps ts ns ks : List ℕ} {c : Cursor} {t : State} (w : Judging s ps t
             sound = rw (g .due) sound-now;
             stands = rw (g .due) (stands-step f K (w .opens) l (c .number + 1) now-held now-told (judged-is ∙ r) sound-now);
             says = rw (g .due) says-now;
-            pairs = row-length 33 (t .counts .pairs) (pairRow f l) 0 ps ∙ w .pairs;
-            texts = row-length 513 (t .counts .parameters) (textRow (t .here)) 0 ts ∙ w .texts;
-            numbers = row-length 513 (t .counts .parameters) (numberRow (t .counts) (t .sample)) 0 ns ∙ w .numbers;
+            pairs = row-length pairRows (t .counts .pairs) (pairRow f l) 0 ps ∙ w .pairs;
+            texts = row-length parameterRows (t .counts .parameters) (textRow (t .here)) 0 ts ∙ w .texts;
+            numbers = row-length parameterRows (t .counts .parameters) (numberRow (t .counts) (t .sample)) 0 ns ∙ w .numbers;
             paired = pair-kept;
             names = text-kept (λ p. p .name) 0 1 (omega arith) (omega arith) (w .names) (w .here .name);
             mnemonics = text-kept (λ p. p .mnemonic) 2 3 (omega arith) (omega arith) (w .mnemonics) (w .here .mnemonic);

@@ -17,6 +17,7 @@ use Rattle.lineforms.specs.Said.{partIn}
 use Rattle.lineforms.specs.declared.due.Form.{Form}
 use Rattle.lineforms.specs.declared.due.Form.the-variants.{Stray, Superframe, HeaderWord, HeaderLine, RecordWord, RecordLine, NoneWord, ParameterWord, NameLine, OpeningComponent, ComponentLine, TimeLine, SamplesEnd, SignedLine, RangeLine, SourceLine, LabelLine, SourceEnd, ParameterEnd}
 use Rattle.model.specs.Content.{Component, Sample, noComponent, noSample}
+use Rattle.model.specs.Forms.{sheetLimits}
 use Rattle.gather.specs.Book.{Book, grow, componentOf}
 use Rattle.gather.specs.Tests.{spot, spots, joinedTest, widthTest, sampleTest}
 use Rattle.gather.proofs.Sound.{Told}
@@ -194,7 +195,7 @@ sample-is LabelLine l K g m e h = refl
 sample-is SourceEnd l K g m e h = refl
 sample-is ParameterEnd l K g m e h = refl
 
-none-narrow : (g : Sampling) (cs : List Component) → OfParts g cs → cs ≡ [] → (g .spots .count ≡ 0) × (g .width ≤ 32)
+none-narrow : (g : Sampling) (cs : List Component) → OfParts g cs → cs ≡ [] → (g .spots .count ≡ 0) × (g .width ≤ sheetLimits .width)
 unfolding spots width
 none-narrow g cs h e = (h .count ∙ ap length e, let z : g .width ≡ 0 = h .wide ∙ ap (λ (c : List Component). width (spots c)) e in omega arith)
 

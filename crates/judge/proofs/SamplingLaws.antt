@@ -10,16 +10,17 @@ use Rattle.sample.specs.declared.component.Component.{Component}
 use Rattle.text.specs.Refusals.{when}
 use Rattle.text.specs.declared.refusal.Refusal.the-variants.{BadSample}
 use Rattle.text.specs.declared.refusal.Judged.the-variants.{Passes, Refused}
+use Rattle.model.specs.Forms.{sheetLimits}
 
 module _ (cs ds : List Component) (c d : Component) (e : ds ≡ cs ++ (c ∷ [])) (f : c ≡ d) (b : Bool) (g : b ≡ twice ds) (w : ℕ) where
   found : twice (cs ++ (d ∷ [])) ≡ b
   found = sym (g ∙ ap twice (e ∙ ap (λ (x : Component). cs ++ (x ∷ [])) f))
 
-  pub twice-here : b ≡ true → Refused BadSample ≡ when (twice (cs ++ (d ∷ [])) || ltb 32 w) BadSample
+  pub twice-here : b ≡ true → Refused BadSample ≡ when (twice (cs ++ (d ∷ [])) || ltb (sheetLimits .width) w) BadSample
   twice-here h = rw (found, h)
 
-  pub wide-here : b ≡ false → 32 < w → Refused BadSample ≡ when (twice (cs ++ (d ∷ [])) || ltb 32 w) BadSample
-  wide-here h k = rw (found, h, lt-ltb 32 w k)
+  pub wide-here : b ≡ false → sheetLimits .width < w → Refused BadSample ≡ when (twice (cs ++ (d ∷ [])) || ltb (sheetLimits .width) w) BadSample
+  wide-here h k = rw (found, h, lt-ltb (sheetLimits .width) w k)
 
-  pub joined-none : b ≡ false → w ≤ 32 → Passes ≡ when (twice (cs ++ (d ∷ [])) || ltb 32 w) BadSample
-  joined-none h k = rw (found, h, le-ltb 32 w k)
+  pub joined-none : b ≡ false → w ≤ sheetLimits .width → Passes ≡ when (twice (cs ++ (d ∷ [])) || ltb (sheetLimits .width) w) BadSample
+  joined-none h k = rw (found, h, le-ltb (sheetLimits .width) w k)

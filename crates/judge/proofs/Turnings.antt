@@ -14,7 +14,7 @@ use Rattle.lines.specs.declared.Found.{Found}
 use Rattle.lines.specs.declared.Found.the-variants as found
 use Rattle.lines.proofs.Cuts.{Next, found-next}
 use Rattle.lineforms.specs.declared.due.Form.{Form}
-use Rattle.judge.specs.Columns.{rowSet, pairRow, textRow, numberRow}
+use Rattle.judge.specs.Columns.{pairSet, keptSet, pairRow, textRow, numberRow}
 use Rattle.judge.specs.Turns.{formHere, Going, Steady, Gone, judgedIn, passedBy, turnOf}
 use Rattle.judge.specs.declared.turn.State.{State}
 use Rattle.judge.specs.declared.turn.Turned.the-variants as turned
@@ -83,6 +83,9 @@ module _ {s ps ts ns ks : List ℕ} {c : Cursor} {t : State} (w : Judging s ps t
     pub turn-steady : {l : List ℕ} → l ≡ part s a (e - a) → Steady f l a t
     turn-steady {l} el = judging-steady w l (went el .form) turn-next el (went el .passes)
 
-    pub turn-on : {l : List ℕ} → l ≡ part s a (e - a) → {qs us ms : List ℕ} {r : State} → qs ≡ rowSet 33 0 (t .counts .pairs) (pairRow f l) ps → us ≡ rowSet 513 0 (t .counts .parameters) (textRow (t .here)) ts → ms ≡ rowSet 513 0 (t .counts .parameters) (numberRow (t .counts) (t .sample)) ns → Gone f l a t r
+    pub turn-on : {l : List ℕ} → l ≡ part s a (e - a) → {qs us ms : List ℕ} {r : State}
+        → qs ≡ pairSet (t .counts .pairs) (pairRow f l) ps
+        → us ≡ keptSet (t .counts .parameters) (textRow (t .here)) ts
+        → ms ≡ keptSet (t .counts .parameters) (numberRow (t .counts) (t .sample)) ns → Gone f l a t r
         → Judging s qs us ms (set ks (t .begun) (c .number + 1)) n r
     turn-on {l} el eq eu em g = judging-next w l (went el .form) turn-next el (went el .passes) eq eu em g

@@ -1,8 +1,9 @@
 -- Not part of the meaning: what the code counts of what a sheet's lines gather to.
-use Prim.Native.Nat.{ℕ, _+_, _≤_}
+use Prim.Native.Nat.{ℕ, _+_, _≤_, _*_}
 use mathlib.Core.Bool.{false, cond}
 use mathlib.Core.List.{List, [], _∷_}
 use lib.ListN.{length}
+use Rattle.model.specs.Forms.{sheetLimits}
 use Rattle.text.specs.Fields.{fieldOf}
 use Rattle.lineforms.specs.Said.{subframesIn, sequentialIn, identifierIn, signedIn, valueIn}
 use Rattle.lineforms.specs.declared.due.Form.{Form}
@@ -217,6 +218,10 @@ countedOf SourceLine l x = x
 countedOf LabelLine l x = x
 countedOf SourceEnd l x = x
 countedOf ParameterEnd l x = closedTally x
+
+-- no count of a sheet within the limits is above: the texts of all parameters, all samples, all components
+abbrev pub mostCount : ℕ
+mostCount = 3 * sheetLimits .text * sheetLimits .parameters + sheetLimits .samples + sheetLimits .components
 
 -- no count is above m
 pub record Small (x : Tally) (m : ℕ) : Type 0 where

@@ -11,24 +11,24 @@ use Rattle.text.specs.declared.refusal.Judged.the-variants.{Passes}
 use Rattle.lineforms.specs.LineFields.{headerFields, recordFields, nameFields, componentFields, timeFields, signedFields, rangeFields, sourceFields, labelFields}
 use Rattle.lineforms.specs.declared.due.Form.{Form}
 use Rattle.lineforms.specs.declared.due.Form.the-variants.{Stray, Superframe, HeaderWord, HeaderLine, RecordWord, RecordLine, NoneWord, ParameterWord, NameLine, OpeningComponent, ComponentLine, TimeLine, SamplesEnd, SignedLine, RangeLine, SourceLine, LabelLine, SourceEnd, ParameterEnd}
-use Rattle.model.specs.Limits.{base}
+use Rattle.model.specs.Forms.{sheetLimits}
 use Rattle.gather.specs.Tests.{dueTest}
 use Rattle.judge.specs.declared.sampling.Sampling.{Sampling}
 use Rattle.judge.specs.declared.tally.Tally.{Tally}
 
 unfoldable pub roomForParameterIn : Tally → Judged
-roomForParameterIn x = when (leb (base .parameters) (x .parameters)) TooMany
+roomForParameterIn x = when (leb (sheetLimits .parameters) (x .parameters)) TooMany
 
 unfoldable pub roomForSampleIn : Tally → Judged
 roomForSampleIn x =
     when
-    (leb (base .samplesEach) (x .own)
-    || (leb (base .samples) (x .samples) || leb (base .components) (x .components)))
+    (leb (sheetLimits .samplesEach) (x .own)
+    || (leb (sheetLimits .samples) (x .samples) || leb (sheetLimits .components) (x .components)))
     TooMany
 
 unfoldable pub roomForComponentIn : Tally → Judged
 roomForComponentIn x =
-    when (leb (base .componentsEach) (x .parts) || leb (base .components) (x .components)) TooMany
+    when (leb (sheetLimits .componentsEach) (x .parts) || leb (sheetLimits .components) (x .components)) TooMany
 
 abbrev pub roomIn : Form → Tally → Judged
 roomIn Stray x = Passes
@@ -79,7 +79,7 @@ formTests f x ws bs l = first (dueTest f ∷ roomIn f x ∷ fieldsIn f x ws bs l
 -- what is kept of the open sample goes with the counts
 pub record Narrow (n : ℕ) (g : Sampling) : Type 0 where
   pub count : g .spots .count ≡ n
-  pub width : g .width ≤ 32
+  pub width : g .width ≤ sheetLimits .width
 
 abbrev pub Fitting : Form → Tally → Sampling → Type 0
 Fitting Stray x g = Unit {0}

@@ -1,9 +1,9 @@
 -- Not part of the meaning: texts of a sheet by their places, as the code keeps those of earlier parameters.
-use Prim.Native.Nat.{ℕ, _+_, _-_}
+use Prim.Native.Nat.{ℕ, suc, _+_, _-_}
 use mathlib.Core.List.{List, [], _∷_}
 use mathlib.Core.Bool.{Bool, true, cond, not, _&&_, _||_}
 use lib.Dec.{ltb}
-use lib.ListN.{length, take, drop}
+use lib.ListN.{length}
 use Rattle.lay.specs.Bytes.{same, part}
 use Rattle.text.specs.Blanks.{isEmpty}
 use Rattle.text.specs.Fields.{fieldOf, fieldAt}
@@ -13,6 +13,7 @@ use Rattle.text.specs.declared.refusal.Judged.{Judged}
 use Rattle.text.specs.declared.refusal.Judged.the-variants.{Passes}
 use Rattle.lineforms.specs.declared.due.Form.{Form}
 use Rattle.lineforms.specs.declared.due.Form.the-variants.{Stray, Superframe, HeaderWord, HeaderLine, RecordWord, RecordLine, NoneWord, ParameterWord, NameLine, OpeningComponent, ComponentLine, TimeLine, SamplesEnd, SignedLine, RangeLine, SourceLine, LabelLine, SourceEnd, ParameterEnd}
+use Rattle.judge.specs.Columns.{firstKept}
 use Rattle.judge.specs.declared.names.Place.{Place}
 use Rattle.judge.specs.declared.names.Places.{Places}
 
@@ -24,9 +25,9 @@ textsAt s [] ends = []
 textsAt s (a ∷ starts) [] = []
 textsAt s (a ∷ starts) (e ∷ ends) = textAt s a e ∷ textsAt s starts ends
 
--- the first p of those whose starts stand from a on, and their ends in the column behind
+-- the first p of those whose starts stand in column k, and their ends in the column behind
 abbrev pub textsIn : List ℕ → ℕ → ℕ → List ℕ → List (List ℕ)
-textsIn s a p ts = textsAt s (take p (drop a ts)) (take p (drop (a + 513) ts))
+textsIn s k p ts = textsAt s (firstKept k p ts) (firstKept (suc k) p ts)
 
 -- none of the texts is this one
 unfoldable pub unlikeAll : List (List ℕ) → List ℕ → Bool

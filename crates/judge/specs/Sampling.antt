@@ -15,10 +15,12 @@ use Rattle.lineforms.specs.Said.{partIn}
 use Rattle.lineforms.specs.declared.due.Form.{Form}
 use Rattle.lineforms.specs.declared.due.Form.the-variants.{Stray, Superframe, HeaderWord, HeaderLine, RecordWord, RecordLine, NoneWord, ParameterWord, NameLine, OpeningComponent, ComponentLine, TimeLine, SamplesEnd, SignedLine, RangeLine, SourceLine, LabelLine, SourceEnd, ParameterEnd}
 use Rattle.lineforms.specs.declared.said.Part.{Part}
+use Rattle.model.specs.Forms.{sheetLimits}
+use Rattle.gather.specs.Tests.{wordSpan}
 use Rattle.judge.specs.declared.sampling.Sampling.{Sampling}
 
 abbrev pub spotOf : Part → Piece
-spotOf p = record { word = p .subframe * 1025 + p .word; low = p .low; high = p .high }
+spotOf p = record { word = p .subframe * wordSpan + p .word; low = p .low; high = p .high }
 
 -- how many bits a component has
 abbrev pub bitsIn : Part → ℕ
@@ -61,9 +63,9 @@ pub record Opened (r : Sampling) : Type 0 where
 
 -- ---- by what a line turned out to be
 
--- a bit twice, or a width above 32, with one component more
+-- a bit twice, or a width above its limit, with one component more
 abbrev pub joinedIn : Sampling → Part → Judged
-joinedIn g p = when (twice (listed (g .spots) ++ (spotOf p ∷ [])) || ltb 32 (g .width + bitsIn p)) BadSample
+joinedIn g p = when (twice (listed (g .spots) ++ (spotOf p ∷ [])) || ltb (sheetLimits .width) (g .width + bitsIn p)) BadSample
 
 abbrev pub sampleIn : Form → List ℕ → Sampling → ℕ → Judged
 sampleIn Stray l g own = Passes
@@ -88,8 +90,8 @@ sampleIn ParameterEnd l g own = Passes
 
 -- there is room for one component more
 pub record Roomy (g : Sampling) : Type 0 where
-  pub count : g .spots .count < 8
-  pub width : g .width ≤ 32
+  pub count : g .spots .count < sheetLimits .componentsEach
+  pub width : g .width ≤ sheetLimits .width
 
 abbrev pub Apt : Form → Sampling → Type 0
 Apt Stray g = Unit {0}

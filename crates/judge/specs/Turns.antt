@@ -1,8 +1,8 @@
 -- Not part of the meaning: one line of the walk, by what the code keeps.
-use Prim.Native.Nat.{ℕ, _+_, _-_, _≤_}
+use Prim.Native.Nat.{ℕ, _+_, _-_, _*_, _≤_}
 use mathlib.Core.Path.{_≡_}
 use mathlib.Core.List.{List}
-use lib.ListN.{length, take, drop}
+use lib.ListN.{length}
 use Rattle.lay.specs.Bytes.{part}
 use Rattle.text.specs.Refusals.{orElse}
 use Rattle.text.specs.declared.refusal.Judged.{Judged}
@@ -14,8 +14,10 @@ use Rattle.lines.specs.declared.Found.the-variants as found
 use Rattle.lineforms.specs.Forms.{formOf, dueAfter}
 use Rattle.lineforms.specs.declared.due.Due.the-variants.{HeaderWord}
 use Rattle.lineforms.specs.declared.due.Form.{Form}
+use Rattle.model.specs.Forms.{sheetLimits}
 use Rattle.gather.specs.Book.{emptyBook}
-use Rattle.judge.specs.Counts.{tallyOf, countedOf, Small}
+use Rattle.judge.specs.Counts.{tallyOf, countedOf, mostCount, Small}
+use Rattle.judge.specs.Columns.{pairRows, parameterRows, firstPairs}
 use Rattle.judge.specs.Keeping.{openedBy}
 use Rattle.judge.specs.LineTests.{formTests, Fitting}
 use Rattle.judge.specs.Names.{namesIn, textsIn, noPlaces, placesAfter}
@@ -34,10 +36,10 @@ pub record Starting (t : State) : Type 0 where
 
 -- no column is shorter than what is counted
 pub record Known (t : State) (ps ts : List ℕ) : Type 0 where
-  pub few : t .counts .pairs ≤ 32
-  pub fewer : t .counts .parameters ≤ 512
-  pub pairs : length ps ≡ 66
-  pub texts : length ts ≡ 3078
+  pub few : t .counts .pairs ≤ sheetLimits .subframes
+  pub fewer : t .counts .parameters ≤ sheetLimits .parameters
+  pub pairs : length ps ≡ 2 * pairRows
+  pub texts : length ts ≡ 6 * parameterRows
 
 -- what a line is, by what is known
 abbrev pub formHere : State → List ℕ → Form
@@ -52,8 +54,8 @@ pub record Going (s : List ℕ) (c : Cursor) (t : State) (ps ts : List ℕ) : Ty
 -- before a line that passed
 pub record Steady (f : Form) (l : List ℕ) (a : ℕ) (t : State) : Type 0 where
   pub apt : Apt f (t .sample)
-  pub small : Small (t .counts) 100000
-  pub begun : t .begun ≤ 512
+  pub small : Small (t .counts) mostCount
+  pub begun : t .begun ≤ sheetLimits .parameters
   pub place : a ≤ 65536
   pub long : length l ≤ 65536
 
@@ -69,8 +71,8 @@ pub record Gone (f : Form) (l : List ℕ) (a : ℕ) (t r : State) : Type 0 where
 unfoldable pub judgedIn : Form → List ℕ → List ℕ → State → List ℕ → List ℕ → Judged
 judgedIn f s l t ps ts =
     orElse
-    (orElse (formTests f (t .counts) (take (t .counts .pairs) ps) (take (t .counts .pairs) (drop 33 ps)) l) (sampleIn f l (t .sample) (t .counts .own)))
-    (namesIn f (textsIn s 0 (t .counts .parameters) ts) (textsIn s 1026 (t .counts .parameters) ts) (textsIn s 2052 (t .counts .parameters) ts) l)
+    (orElse (formTests f (t .counts) (firstPairs 0 (t .counts .pairs) ps) (firstPairs 1 (t .counts .pairs) ps) l) (sampleIn f l (t .sample) (t .counts .own)))
+    (namesIn f (textsIn s 0 (t .counts .parameters) ts) (textsIn s 2 (t .counts .parameters) ts) (textsIn s 4 (t .counts .parameters) ts) l)
 
 abbrev pub passedBy : Judged → Form → ℕ → ℕ → Cursor → Turned
 passedBy judged.Passes f a e n = Passed f a e n

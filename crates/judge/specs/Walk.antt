@@ -1,10 +1,10 @@
 -- Not part of the meaning: where the run over the lines ends, and the judge's answer.
-use Prim.Native.Nat.{ℕ, _+_, _≤_}
+use Prim.Native.Nat.{ℕ, _+_, _*_, _≤_}
 use mathlib.Core.Path.{_≡_}
 use mathlib.Core.Bool.{Bool, true, false, cond}
 use mathlib.Core.List.{List}
 use lib.Dec.{eqb, ltb}
-use lib.ListN.{length, take, drop, getD}
+use lib.ListN.{length, take, getD}
 use Rattle.lay.specs.Below.{all, find}
 use Rattle.text.specs.declared.refusal.Refusal.the-variants.{Unended, BadIdentifiers}
 use Rattle.text.specs.declared.refusal.Judged.{Judged}
@@ -14,9 +14,11 @@ use Rattle.lines.specs.Order.{lineJudged}
 use Rattle.lineforms.specs.Forms.{dueAfter}
 use Rattle.lineforms.specs.declared.due.Due.{Due}
 use Rattle.lineforms.specs.declared.due.Due.the-variants as due
+use Rattle.model.specs.Forms.{sheetLimits}
 use Rattle.gather.specs.Book.{Book, emptyBook, grow}
 use Rattle.gather.specs.Tests.{testsOf}
 use Rattle.gather.specs.Ruling.{Ruling, Accepted, Refused, formAt}
+use Rattle.judge.specs.Columns.{pairRows, parameterRows, firstKept}
 use Rattle.judge.specs.Sixteen.{badIn, takenIn}
 use Rattle.judge.specs.declared.tally.Tally.{Tally}
 use Rattle.judge.specs.declared.turn.State.{State}
@@ -73,18 +75,19 @@ identifiedIn x fs gs hs vs os =
 unfoldable pub endedIn : State → ℕ → List ℕ → List ℕ → Verdict
 endedIn t k ns os =
     cond (mayEnd (t .due))
-    (identifiedIn (t .counts) (take (t .counts .parameters) ns) (take (t .counts .parameters) (drop 513 ns)) (take (t .counts .parameters) (drop 1026 ns)) (take (t .counts .parameters) (drop 1539 ns)) (take (t .counts .parameters) os))
+    (let p = t .counts .parameters in
+    identifiedIn (t .counts) (firstKept 0 p ns) (firstKept 1 p ns) (firstKept 2 p ns) (firstKept 3 p ns) (take p os))
     (verdict.Refused Unended k)
 
 pub record Ended (t : State) (ns os : List ℕ) : Type 0 where
-  pub few : t .counts .parameters ≤ 512
-  pub numbers : length ns ≡ 2052
-  pub marks : length os ≡ 513
+  pub few : t .counts .parameters ≤ sheetLimits .parameters
+  pub numbers : length ns ≡ 4 * parameterRows
+  pub marks : length os ≡ parameterRows
 
 -- a sheet that is not too long, and room for what is kept of it
 pub record Room (s ps ts ns os : List ℕ) : Type 0 where
   pub short : length s ≤ 65536
-  pub pairs : length ps ≡ 66
-  pub texts : length ts ≡ 3078
-  pub numbers : length ns ≡ 2052
-  pub marks : length os ≡ 513
+  pub pairs : length ps ≡ 2 * pairRows
+  pub texts : length ts ≡ 6 * parameterRows
+  pub numbers : length ns ≡ 4 * parameterRows
+  pub marks : length os ≡ parameterRows

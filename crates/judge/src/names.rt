@@ -1,4 +1,9 @@
 // 15: names of earlier parameters, kept as places in the sheet.
+use crate::columns::FIFTH;
+use crate::columns::FOURTH;
+use crate::columns::SECOND;
+use crate::columns::SIXTH;
+use crate::columns::THIRD;
 use crate::columns::places_column;
 use lay::same_text;
 use lineforms::due::Form;
@@ -9,9 +14,11 @@ use text::refusal::Judged;
 use text::refusal::Refusal;
 ghost use mathlib.Core.Path.{_≡_};
 ghost use mathlib.Core.Bool.{not, _||_};
-ghost use Prim.Native.Nat.{_≤_};
+ghost use Prim.Native.Nat.{_*_, _≤_};
 ghost use lib.ListN.{length};
 ghost use Rattle.text.specs.Blanks.{isEmpty};
+ghost use Rattle.model.specs.Forms.{sheetLimits};
+ghost use Rattle.judge.specs.Columns.{parameterRows};
 ghost use Rattle.judge.specs.Names.{textAt, textsAt, textsIn, unlikeAll, unlikeNames, namesIn, placeIn, noPlaces, placesAfter};
 ghost use Rattle.text.specs.Refusals.{when};
 ghost use Rattle.text.specs.declared.refusal.Refusal.the-variants.{Repeated};
@@ -57,15 +64,15 @@ fn unlike_or_empty(sheet: &[u8], starts: &[usize], ends: &[usize], text: &[u8]) 
 
 // Whether a 7-field line's texts are none of those of the first p parameters.
 fn unlike_names(sheet: &[u8], line: &[u8], texts: &[usize], p: usize) -> bool
-    requires { ⌜ (p ≤ 512) × (length (now texts) ≡ 3078) ⌝ }
-    ensures { λ r. ⌜ r ≡ unlikeNames (textsIn (now (sheet .entry)) 0 p (now (texts .entry))) (textsIn (now (sheet .entry)) 1026 p (now (texts .entry))) (textsIn (now (sheet .entry)) 2052 p (now (texts .entry))) (now (line .entry)) ⌝ }
+    requires { ⌜ (p ≤ sheetLimits .parameters) × (length (now texts) ≡ 6 * parameterRows) ⌝ }
+    ensures { λ r. ⌜ r ≡ unlikeNames (textsIn (now (sheet .entry)) 0 p (now (texts .entry))) (textsIn (now (sheet .entry)) 2 p (now (texts .entry))) (textsIn (now (sheet .entry)) 4 p (now (texts .entry))) (now (line .entry)) ⌝ }
 {
     let a = places_column(texts, 0, p);
-    let b = places_column(texts, 513, p);
-    let c = places_column(texts, 1026, p);
-    let d = places_column(texts, 1539, p);
-    let e = places_column(texts, 2052, p);
-    let f = places_column(texts, 2565, p);
+    let b = places_column(texts, SECOND, p);
+    let c = places_column(texts, THIRD, p);
+    let d = places_column(texts, FOURTH, p);
+    let e = places_column(texts, FIFTH, p);
+    let f = places_column(texts, SIXTH, p);
     if !unlike(sheet, a, b, field_of(line, 0)) {
         return false;
     }
@@ -86,8 +93,8 @@ fn repeated_unless(apart: bool) -> Judged
 
 // 15 of a line, by what it turned out to be.
 pub fn names_judged(form: Form, sheet: &[u8], line: &[u8], texts: &[usize], p: usize) -> Judged
-    requires { ⌜ (p ≤ 512) × (length (now texts) ≡ 3078) ⌝ }
-    ensures { λ r. ⌜ r ≡ namesIn form (textsIn (now (sheet .entry)) 0 p (now (texts .entry))) (textsIn (now (sheet .entry)) 1026 p (now (texts .entry))) (textsIn (now (sheet .entry)) 2052 p (now (texts .entry))) (now (line .entry)) ⌝ }
+    requires { ⌜ (p ≤ sheetLimits .parameters) × (length (now texts) ≡ 6 * parameterRows) ⌝ }
+    ensures { λ r. ⌜ r ≡ namesIn form (textsIn (now (sheet .entry)) 0 p (now (texts .entry))) (textsIn (now (sheet .entry)) 2 p (now (texts .entry))) (textsIn (now (sheet .entry)) 4 p (now (texts .entry))) (now (line .entry)) ⌝ }
 {
     match form {
         Form::NameLine => repeated_unless(unlike_names(sheet, line, texts, p)),

@@ -2,6 +2,8 @@
 use lineforms::due::Form;
 use lineforms::said::Part;
 use lineforms::said::part_in;
+use model::limits::WIDTH;
+use model::limits::WORDS;
 use sample::clash::names_twice;
 use sample::component::Component;
 use sample::component::Components;
@@ -17,6 +19,7 @@ ghost use Rattle.sample.specs.Promise.{listed};
 ghost use Rattle.text.specs.Refusals.{when};
 ghost use Rattle.text.specs.declared.refusal.Refusal.the-variants.{BadSample};
 ghost use Rattle.lineforms.specs.Said.{Modest};
+ghost use Rattle.model.specs.Forms.{sheetLimits};
 ghost use Rattle.judge.specs.Sampling.{spotOf, bitsIn, widthTestIn, Widened, Timed, Opened, sampleIn, Apt, After};
 
 // The open sample: its width, the subframe of its first component, whether all lie there. The first sample: the same.
@@ -30,28 +33,31 @@ pub struct Sampling {
     pub within: bool,
 }
 
+// A word is less than this.
+const WORD_SPAN: u64 = WORDS as u64 + 1;
+
 // Subframe and word as one number.
 fn spot_of(p: Part) -> Component
     requires { ⌜ Modest p ⌝ }
     ensures { λ r. ⌜ r ≡ spotOf p ⌝ }
 {
     Component {
-        word: (p.subframe * 1025 + p.word) as usize,
+        word: (p.subframe * WORD_SPAN + p.word) as usize,
         low: p.low as u32,
         high: p.high as u32,
     }
 }
 
-// A bit twice, or a width above 32, with one component more.
+// A bit twice, or a width above its limit, with one component more.
 fn joined_judged(g: Sampling, p: Part) -> Judged
-    requires { ⌜ (g .spots .count < 8) × (g .width ≤ 32) × Modest p ⌝ }
-    ensures { λ r. ⌜ r ≡ when (twice (listed (g .spots) ++ (spotOf p ∷ [])) || ltb 32 (g .width + bitsIn p)) BadSample ⌝ }
+    requires { ⌜ (g .spots .count < sheetLimits .componentsEach) × (g .width ≤ sheetLimits .width) × Modest p ⌝ }
+    ensures { λ r. ⌜ r ≡ when (twice (listed (g .spots) ++ (spotOf p ∷ [])) || ltb (sheetLimits .width) (g .width + bitsIn p)) BadSample ⌝ }
 {
     let spots = g.spots;
     if names_twice(spots.with(spot_of(p))) {
         return Judged::Refused(Refusal::BadSample);
     }
-    if 32 < g.width + (p.high + 1 - p.low) {
+    if (WIDTH as u64) < g.width + (p.high + 1 - p.low) {
         return Judged::Refused(Refusal::BadSample);
     }
     Judged::Passes
@@ -102,7 +108,7 @@ fn alone_of(n: usize, s: u64, home: u64, alone: bool) -> bool
 
 // One component more, n before it.
 fn with_part(g: Sampling, p: Part, n: usize) -> Sampling
-    requires { ⌜ (g .spots .count < 8) × (g .width ≤ 32) × Modest p ⌝ }
+    requires { ⌜ (g .spots .count < sheetLimits .componentsEach) × (g .width ≤ sheetLimits .width) × Modest p ⌝ }
     ensures { λ r. ⌜ Widened g p n r ⌝ }
 {
     let spots = g.spots;

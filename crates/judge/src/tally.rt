@@ -10,7 +10,7 @@ ghost use mathlib.Core.Path.{_≡_};
 ghost use mathlib.Core.Bool.{cond};
 ghost use Rattle.lineforms.specs.Said.{valueIn};
 ghost use Rattle.gather.specs.Book.{emptyBook};
-ghost use Rattle.judge.specs.Counts.{tallyOf, countedOf, declaredTally, pairedTally, namedTally, partedTally, timedTally, signedTally, rangedTally, closedTally, Small};
+ghost use Rattle.judge.specs.Counts.{tallyOf, countedOf, declaredTally, pairedTally, namedTally, partedTally, timedTally, signedTally, rangedTally, closedTally, mostCount, Small};
 
 // samples and components in all, with the open parameter's and the open sample's; own are the open parameter's samples,
 // parts the open sample's components, text the whole parameters' bytes of text; then the open parameter.
@@ -67,7 +67,7 @@ fn declared(x: Tally, line: &[u8]) -> Tally
 
 // One record pair more.
 fn paired(x: Tally) -> Tally
-    requires { ⌜ Small x 100000 ⌝ }
+    requires { ⌜ Small x mostCount ⌝ }
     ensures { λ r. ⌜ r ≡ pairedTally x ⌝ }
 {
     Tally {
@@ -94,7 +94,7 @@ fn named(x: Tally, line: &[u8]) -> Tally
 
 // One component more.
 fn parted(x: Tally) -> Tally
-    requires { ⌜ Small x 100000 ⌝ }
+    requires { ⌜ Small x mostCount ⌝ }
     ensures { λ r. ⌜ r ≡ partedTally x ⌝ }
 {
     Tally {
@@ -106,7 +106,7 @@ fn parted(x: Tally) -> Tally
 
 // The time line closes a sample.
 fn timed(x: Tally) -> Tally
-    requires { ⌜ Small x 100000 ⌝ }
+    requires { ⌜ Small x mostCount ⌝ }
     ensures { λ r. ⌜ r ≡ timedTally x ⌝ }
 {
     Tally {
@@ -147,7 +147,7 @@ fn ranged(x: Tally, line: &[u8]) -> Tally
 
 // The last blank line closes it.
 fn closed(x: Tally) -> Tally
-    requires { ⌜ Small x 100000 ⌝ }
+    requires { ⌜ Small x mostCount ⌝ }
     ensures { λ r. ⌜ r ≡ closedTally x ⌝ }
 {
     Tally {
@@ -166,7 +166,7 @@ fn closed(x: Tally) -> Tally
 
 // The counts after a line that passed.
 pub fn counted(form: Form, line: &[u8], x: Tally) -> Tally
-    requires { ⌜ Small x 100000 ⌝ }
+    requires { ⌜ Small x mostCount ⌝ }
     ensures { λ r. ⌜ r ≡ countedOf form (now (line .entry)) x ⌝ }
 {
     match form {

@@ -12,6 +12,11 @@ use lineforms::fields::record_fields;
 use lineforms::fields::signed_fields;
 use lineforms::fields::source_fields;
 use lineforms::fields::time_fields;
+use model::limits::COMPONENTS;
+use model::limits::COMPONENTS_EACH;
+use model::limits::PARAMETERS;
+use model::limits::SAMPLES;
+use model::limits::SAMPLES_EACH;
 use text::refusal::Judged;
 use text::refusal::Refusal;
 use text::refusal::or_else;
@@ -24,7 +29,7 @@ ghost use Rattle.text.specs.Refusals.{orElse};
 fn room_for_parameter(x: Tally) -> Judged
     ensures { λ r. ⌜ r ≡ roomForParameterIn x ⌝ }
 {
-    if 512 <= x.parameters {
+    if PARAMETERS <= x.parameters {
         return Judged::Refused(Refusal::TooMany);
     }
     Judged::Passes
@@ -34,13 +39,13 @@ fn room_for_parameter(x: Tally) -> Judged
 fn room_for_sample(x: Tally) -> Judged
     ensures { λ r. ⌜ r ≡ roomForSampleIn x ⌝ }
 {
-    if 64 <= x.own {
+    if SAMPLES_EACH <= x.own {
         return Judged::Refused(Refusal::TooMany);
     }
-    if 4096 <= x.samples {
+    if SAMPLES <= x.samples {
         return Judged::Refused(Refusal::TooMany);
     }
-    if 4096 <= x.components {
+    if COMPONENTS <= x.components {
         return Judged::Refused(Refusal::TooMany);
     }
     Judged::Passes
@@ -50,10 +55,10 @@ fn room_for_sample(x: Tally) -> Judged
 fn room_for_component(x: Tally) -> Judged
     ensures { λ r. ⌜ r ≡ roomForComponentIn x ⌝ }
 {
-    if 8 <= x.parts {
+    if COMPONENTS_EACH <= x.parts {
         return Judged::Refused(Refusal::TooMany);
     }
-    if 4096 <= x.components {
+    if COMPONENTS <= x.components {
         return Judged::Refused(Refusal::TooMany);
     }
     Judged::Passes

@@ -1,4 +1,5 @@
 // One line of the walk: what it turns out to be, and what is known after it.
+use crate::columns::PAIR_ROWS;
 use crate::columns::column;
 use crate::kept::opened_by;
 use crate::names::Places;
@@ -67,7 +68,7 @@ fn judged(form: Form, sheet: &[u8], line: &[u8], t: State, pairs: &[u64], texts:
 {
     let q = t.counts.pairs;
     let words = column(pairs, 0, q);
-    let bits = column(pairs, 33, q);
+    let bits = column(pairs, PAIR_ROWS, q);
     let k = line_judged(form, line, t.counts, t.sample, words, bits);
     let m = names_judged(form, sheet, line, texts, t.counts.parameters);
     or_else(k, m)

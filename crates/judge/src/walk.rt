@@ -1,4 +1,9 @@
 // The judge: the lines of a sheet from the top, then 16.
+use crate::columns::FOURTH;
+use crate::columns::PAIR_ROWS;
+use crate::columns::ROWS;
+use crate::columns::SECOND;
+use crate::columns::THIRD;
 use crate::columns::column;
 use crate::columns::keep_numbers;
 use crate::columns::keep_pair;
@@ -22,6 +27,12 @@ ghost use Rattle.judge.specs.Walk.{mayEnd, identifiedIn, endedIn, Room, 
 ghost use Rattle.judge.specs.declared.walk.Verdict.the-variants.{Refused};
 ghost use Rattle.judge.specs.Counts.{tallyOf};
 ghost use Rattle.gather.specs.Ruling.{judgeOf};
+
+const PAIRS: usize = 2 * PAIR_ROWS;
+
+const TEXTS: usize = 6 * ROWS;
+
+const NUMBERS: usize = 4 * ROWS;
 
 pub enum Verdict {
     Accepted(Tally),
@@ -80,9 +91,9 @@ fn ended(t: State, missing: u32, numbers: &[u64], marks: &[u32]) -> Verdict
     }
     let p = t.counts.parameters;
     let flags = column(numbers, 0, p);
-    let goods = column(numbers, 513, p);
-    let homes = column(numbers, 1026, p);
-    let values = column(numbers, 1539, p);
+    let goods = column(numbers, SECOND, p);
+    let homes = column(numbers, THIRD, p);
+    let values = column(numbers, FOURTH, p);
     identified(t.counts, flags, goods, homes, values, &marks[..p])
 }
 
@@ -133,9 +144,9 @@ pub fn judge(sheet: &[u8]) -> Verdict
     if 65536 < sheet.len() {
         return refused(Refusal::SheetTooLong, 0);
     }
-    let mut pairs = [0u64; 66];
-    let mut texts = [0usize; 3078];
-    let mut numbers = [0u64; 2052];
-    let mut marks = [0u32; 513];
+    let mut pairs = [0u64; PAIRS];
+    let mut texts = [0usize; TEXTS];
+    let mut numbers = [0u64; NUMBERS];
+    let mut marks = [0u32; ROWS];
     walked(sheet, &mut pairs, &mut texts, &mut numbers, &mut marks)
 }

@@ -8,7 +8,7 @@ use Rattle.lineforms.specs.declared.due.Form.the-variants as form
 use Rattle.model.specs.Content.{Parameter, Sample, Component}
 use Rattle.model.specs.Write.{texts}
 use Rattle.gather.specs.Book.{Book, grow, componentOf, namedOf}
-use Rattle.laying.specs.Parts.{textPart, samplesIn, componentsIn, samplesAll, componentsAll, textAll}
+use Rattle.laying.specs.Parts.{textBytes, samplesIn, componentsIn, samplesAll, componentsAll, textAll}
 use Rattle.laying.proofs.Fronts.{nil-end}
 use Rattle.laying.proofs.Grown.{text-more, samples-more, components-more}
 use Rattle.laying.proofs.Clear.{ClearAt}
@@ -129,7 +129,7 @@ text-added form.RecordLine l K h = sym (nil-end (textAll K))
 text-added form.NoneWord l K h = sym (nil-end (textAll K))
 text-added form.ParameterWord l K h = sym (nil-end (textAll K))
 text-added form.NameLine l K h =
-    sym (ap (λ (x : List ℕ). x ++ texts (namedOf l)) (ap (λ (p : Parameter). textPart (K .parameters) ++ texts p) h ∙ nil-end (textPart (K .parameters))))
+    sym (ap (λ (x : List ℕ). x ++ texts (namedOf l)) (ap (λ (p : Parameter). textBytes (K .parameters) ++ texts p) h ∙ nil-end (textBytes (K .parameters))))
 text-added form.OpeningComponent l K h = sym (nil-end (textAll K))
 text-added form.ComponentLine l K h = sym (nil-end (textAll K))
 text-added form.TimeLine l K h = sym (nil-end (textAll K))

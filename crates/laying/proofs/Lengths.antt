@@ -1,54 +1,63 @@
--- How long the parts are. Assumes nothing.
-use mathlib.Core.Path.{_≡_, refl}
-use mathlib.Core.List.{List, [], _∷_}
-use Prim.Native.Nat.{ℕ, _+_, _*_}
+-- How long the parts are: so many entries of the size that the newest form gives them. Assumes nothing.
+use mathlib.Core.Path.{_≡_, refl, sym, _∙_}
+use mathlib.Core.List.{List, [], _∷_, _++_}
+use Prim.Native.Nat.{ℕ, suc, _+_, _*_}
+use native.Mathlib.Nat.{mul-zero, mul-suc}
 use native.Mathlib.Omega.{arith}
 use lib.ListN.{length, length-append}
-use Rattle.lay.specs.Below.{flat}
-use Rattle.lay.specs.Fields.{fieldBytes}
-use Rattle.lay.proofs.Fields.{length-fields}
-use Rattle.model.specs.Content.{Subframe, Parameter, Sample, Component}
-use Rattle.model.specs.Write.{texts, subframeFields, componentFields}
-use Rattle.laying.specs.Parts.{parameterEntry, sampleEntry, subframePart, copiesPart, parameterPart, samplePart, componentPart, textPart}
+use Rattle.lay.proofs.Below.{length-flat, sum-same, sum-const}
+use Rattle.lay.proofs.Slots.{length-entry}
+use Rattle.model.specs.Content.{Content, Subframe, Parameter, Sample, Component}
+use Rattle.model.specs.Items.{subframePart, parameterPart, samplePart, componentPart}
+use Rattle.model.specs.Write.{texts, subframeValues, componentValues}
+use Rattle.laying.specs.Parts.{size, entry, headSize, headerOf, parameterFrom, sampleFrom, subframeBytes, copied, copiesBytes, parameterBytes, sampleBytes, componentBytes, textBytes}
 use Rattle.laying.proofs.Grown.{textLong}
 
-subframe-long : (f : Subframe) → length (fieldBytes (subframeFields f)) ≡ 20
-unfolding subframeFields
-subframe-long f = length-fields (subframeFields f)
+pub entry-long : (p : ℕ) (xs : List ℕ) → length (entry p xs) ≡ size p
+entry-long p xs = length-entry _ _
 
-component-long : (c : Component) → length (fieldBytes (componentFields c)) ≡ 6
-unfolding componentFields
-component-long c = length-fields (componentFields c)
+pub header-long : (c : Content) → length (headerOf c) ≡ headSize
+header-long c = length-entry _ _
 
-pub subframes-long : (fs : List Subframe) → length (subframePart fs) ≡ 20 * length fs
-unfolding subframePart
-subframes-long [] = refl
-subframes-long (f ∷ fs) = omega (arith, length-append (fieldBytes (subframeFields f)) (subframePart fs), subframe-long f, subframes-long fs)
+-- an entry more
+more : (p n : ℕ) (xs r : List ℕ) → length r ≡ size p * n → length (entry p xs ++ r) ≡ size p * suc n
+more p n xs r h = omega (arith, length-append (entry p xs) r, entry-long p xs, mul-suc (size p) n)
 
-pub components-long : (cs : List Component) → length (componentPart cs) ≡ 6 * length cs
-unfolding componentPart
-components-long [] = refl
-components-long (c ∷ cs) = omega (arith, length-append (fieldBytes (componentFields c)) (componentPart cs), component-long c, components-long cs)
+pub subframes-long : (fs : List Subframe) → length (subframeBytes fs) ≡ size subframePart * length fs
+unfolding subframeBytes
+subframes-long [] = sym (mul-zero (size subframePart))
+subframes-long (f ∷ fs) = more subframePart (length fs) (subframeValues f) (subframeBytes fs) (subframes-long fs)
 
-pub samples-long : (n : ℕ) (ss : List Sample) → length (samplePart n ss) ≡ 8 * length ss
-unfolding samplePart
-samples-long n [] = refl
+pub components-long : (cs : List Component) → length (componentBytes cs) ≡ size componentPart * length cs
+unfolding componentBytes
+components-long [] = sym (mul-zero (size componentPart))
+components-long (c ∷ cs) = more componentPart (length cs) (componentValues c) (componentBytes cs) (components-long cs)
+
+pub samples-long : (n : ℕ) (ss : List Sample) → length (sampleBytes n ss) ≡ size samplePart * length ss
+unfolding sampleBytes
+samples-long n [] = sym (mul-zero (size samplePart))
 samples-long n (s ∷ ss) =
-    omega (arith, length-append (fieldBytes (sampleEntry s n)) (samplePart (n + length (s .components)) ss), length-fields (sampleEntry s n), samples-long (n + length (s .components)) ss)
+    more samplePart (length ss) (sampleFrom s n) (sampleBytes (n + length (s .components)) ss) (samples-long (n + length (s .components)) ss)
 
-pub parameters-long : (t q : ℕ) (ps : List Parameter) → length (parameterPart t q ps) ≡ 16 * length ps
-unfolding parameterPart
-parameters-long t q [] = refl
+pub parameters-long : (t q : ℕ) (ps : List Parameter) → length (parameterBytes t q ps) ≡ size parameterPart * length ps
+unfolding parameterBytes
+parameters-long t q [] = sym (mul-zero (size parameterPart))
 parameters-long t q (p ∷ ps) =
-    omega (arith, length-append (fieldBytes (parameterEntry p t q)) (parameterPart (t + length (texts p)) (q + length (p .samples)) ps), length-fields (parameterEntry p t q), parameters-long (t + length (texts p)) (q + length (p .samples)) ps)
+    more parameterPart (length ps) (parameterFrom p t q) (parameterBytes (t + length (texts p)) (q + length (p .samples)) ps) (parameters-long (t + length (texts p)) (q + length (p .samples)) ps)
 
-pub texts-long : (ps : List Parameter) → length (textPart ps) ≡ textLong ps
-unfolding textPart textLong
+pub texts-long : (ps : List Parameter) → length (textBytes ps) ≡ textLong ps
+unfolding textBytes textLong
 texts-long [] = refl
-texts-long (p ∷ ps) = omega (arith, length-append (texts p) (textPart ps), texts-long ps)
+texts-long (p ∷ ps) = omega (arith, length-append (texts p) (textBytes ps), texts-long ps)
 
--- pairs that are written once
-pub once-long : (fs : List Subframe) → length (copiesPart 1 fs) ≡ 20 * length fs
-unfolding copiesPart
-once-long [] = refl
-once-long (f ∷ fs) = omega (arith, length-append (flat 1 (λ i. fieldBytes (subframeFields f))) (copiesPart 1 fs), subframe-long f, once-long fs)
+-- pairs that are written once, and one that is written n times
+pub once-long : (fs : List Subframe) → length (copiesBytes 1 fs) ≡ size subframePart * length fs
+unfolding copiesBytes
+once-long [] = sym (mul-zero (size subframePart))
+once-long (f ∷ fs) = more subframePart (length fs) (subframeValues f) (copiesBytes 1 fs) (once-long fs)
+
+pub copied-long : (n : ℕ) (f : Subframe) → length (copied n f) ≡ size subframePart * n
+copied-long n f =
+    length-flat n (λ i. entry subframePart (subframeValues f))
+    ∙ sum-same n _ (λ k. size subframePart) (λ k h. entry-long subframePart (subframeValues f))
+    ∙ sum-const (size subframePart) n

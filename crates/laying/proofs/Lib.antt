@@ -9,3 +9,4 @@ pub mod Shares
 pub mod Lengths
 pub mod Whole
 pub mod Rising
+pub mod Placing

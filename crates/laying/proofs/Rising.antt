@@ -2,15 +2,14 @@
 use mathlib.Core.Path.{_≡_, refl, ap}
 use mathlib.Core.List.{List, [], _∷_, _++_}
 use Prim.Native.Nat.{ℕ, _+_, _≤_}
+use native.Mathlib.Nat.{mul-le-mul-left}
 use native.Mathlib.Omega.{arith}
 use lib.ListN.{length, length-append}
-use Rattle.lay.specs.Below.{flat}
-use Rattle.lay.specs.Fields.{fieldBytes}
 use Rattle.lineforms.specs.declared.due.Form.{Form}
 use Rattle.lineforms.specs.declared.due.Form.the-variants as form
-use Rattle.model.specs.Write.{subframeFields}
+use Rattle.model.specs.Items.{parameterPart, samplePart, componentPart}
 use Rattle.gather.specs.Book.{Book, grow, subframeOf}
-use Rattle.laying.specs.Parts.{copiesPart, samplesAll, componentsAll, textAll, Places, Fits}
+use Rattle.laying.specs.Parts.{size, copied, copiesBytes, samplesAll, componentsAll, textAll, Places, Fits}
 use Rattle.laying.proofs.Grown.{copies-more}
 use Rattle.laying.proofs.Lengths.{parameters-long, samples-long, components-long}
 use Rattle.laying.proofs.Clear.{ClearAt}
@@ -18,7 +17,7 @@ use Rattle.laying.proofs.Added.{addedSamples, addedComponents, addedTex
 
 pub record Rises (n : ℕ) (K G : Book) : Type 0 where
   pub pairs : length (K .pairs) ≤ length (G .pairs)
-  pub subframes : length (copiesPart n (K .pairs)) ≤ length (copiesPart n (G .pairs))
+  pub subframes : length (copiesBytes n (K .pairs)) ≤ length (copiesBytes n (G .pairs))
   pub parameters : length (K .parameters) ≤ length (G .parameters)
   pub samples : length (samplesAll K) ≤ length (samplesAll G)
   pub components : length (componentsAll K) ≤ length (componentsAll G)
@@ -42,13 +41,13 @@ rises-on n K G H p q =
 longer : {A : Type 0} (x y z : List A) → z ≡ x ++ y → length x ≤ length z
 longer x y z e = omega (arith, ap length e, length-append x y)
 
-pairs-rise : (n : ℕ) (f : Form) (l : List ℕ) (K : Book) → length (copiesPart n (K .pairs)) ≤ length (copiesPart n (grow f l K .pairs))
+pairs-rise : (n : ℕ) (f : Form) (l : List ℕ) (K : Book) → length (copiesBytes n (K .pairs)) ≤ length (copiesBytes n (grow f l K .pairs))
 pairs-rise n form.Stray l K = omega arith
 pairs-rise n form.Superframe l K = omega arith
 pairs-rise n form.HeaderWord l K = omega arith
 pairs-rise n form.HeaderLine l K = omega arith
 pairs-rise n form.RecordWord l K = omega arith
-pairs-rise n form.RecordLine l K = longer (copiesPart n (K .pairs)) (flat n (λ i. fieldBytes (subframeFields (subframeOf l)))) (copiesPart n (K .pairs ++ (subframeOf l ∷ []))) (copies-more n (K .pairs) (subframeOf l))
+pairs-rise n form.RecordLine l K = longer (copiesBytes n (K .pairs)) (copied n (subframeOf l)) (copiesBytes n (K .pairs ++ (subframeOf l ∷ []))) (copies-more n (K .pairs) (subframeOf l))
 pairs-rise n form.NoneWord l K = omega arith
 pairs-rise n form.ParameterWord l K = omega arith
 pairs-rise n form.NameLine l K = omega arith
@@ -121,8 +120,8 @@ pub fits-before : (a : Places) (n : ℕ) (K G : Book) (long : ℕ) → Rises n K
 fits-before a n K G long r h =
     record {
       subframes = omega (arith, r .subframes, h .subframes);
-      parameters = omega (arith, parameters-long 0 0 (K .parameters), parameters-long 0 0 (G .parameters), r .parameters, h .parameters);
-      samples = omega (arith, samples-long 0 (samplesAll K), samples-long 0 (samplesAll G), r .samples, h .samples);
-      components = omega (arith, components-long (componentsAll K), components-long (componentsAll G), r .components, h .components);
+      parameters = omega (arith, parameters-long 0 0 (K .parameters), parameters-long 0 0 (G .parameters), mul-le-mul-left (size parameterPart) (r .parameters), h .parameters);
+      samples = omega (arith, samples-long 0 (samplesAll K), samples-long 0 (samplesAll G), mul-le-mul-left (size samplePart) (r .samples), h .samples);
+      components = omega (arith, components-long (componentsAll K), components-long (componentsAll G), mul-le-mul-left (size componentPart) (r .components), h .components);
       text = omega (arith, r .text, h .text);
     }

@@ -5,14 +5,14 @@ use Prim.Native.Nat.{ℕ, _+_, _≤_}
 use native.Mathlib.Omega.{arith}
 use lib.ListN.{length, drop, length-append}
 use Rattle.lay.specs.Bytes.{put}
-use Rattle.lay.specs.Fields.{fieldBytes}
-use Rattle.lay.proofs.Fields.{length-fields}
 use Rattle.lay.proofs.Puts.{put-put, put-front, put-comm}
-use Rattle.model.specs.Content.{Content, Parameter, Component, noParameter}
-use Rattle.model.specs.Write.{texts, headerFields, write}
+use Rattle.model.specs.Content.{Parameter, Component, noParameter}
+use Rattle.model.specs.Write.{texts, write}
+use Rattle.model.specs.Forms.{newest}
 use Rattle.gather.specs.Book.{Book, contentOf}
-use Rattle.laying.specs.Parts.{copiesPart, copies, parameterPart, samplePart, componentPart, textPart, samplesIn, componentsIn, samplesAll, componentsAll, textAll, Places, laid}
+use Rattle.laying.specs.Parts.{headSize, headerOf, copiesBytes, copies, parameterBytes, sampleBytes, componentBytes, textBytes, samplesIn, componentsIn, samplesAll, componentsAll, textAll, Places, laid}
 use Rattle.laying.proofs.Fronts.{nil-end}
+use Rattle.laying.proofs.Lengths.{header-long}
 use Rattle.laying.proofs.Written.{written}
 use Rattle.laying.proofs.Copied.{spread-copied}
 use Rattle.laying.proofs.Laid.{five}
@@ -35,17 +35,13 @@ headed : (out : List ℕ) (a : ℕ) (z y : List ℕ) → length z ≡ a → a + 
 headed out a z y e h =
     put-comm out 0 z a y (omega arith) h ∙ (put-put out 0 z y a (omega arith) h ∙ put-front out (z ++ y))
 
-pub header-long : (c : Content) → length (fieldBytes (headerFields 1 c)) ≡ 36
-unfolding headerFields
-header-long c = length-fields (headerFields 1 c)
-
 -- the places that follow from the lists
 pub record Placed (a : Places) (n : ℕ) (K : Book) : Type 0 where
-  pub subframes : a .subframes ≡ 36
-  pub parameters : a .parameters ≡ a .subframes + length (copiesPart n (K .pairs))
-  pub samples : a .samples ≡ a .parameters + length (parameterPart 0 0 (K .parameters))
-  pub components : a .components ≡ a .samples + length (samplePart 0 (samplesAll K))
-  pub text : a .text ≡ a .components + length (componentPart (componentsAll K))
+  pub subframes : a .subframes ≡ headSize
+  pub parameters : a .parameters ≡ a .subframes + length (copiesBytes n (K .pairs))
+  pub samples : a .samples ≡ a .parameters + length (parameterBytes 0 0 (K .parameters))
+  pub components : a .components ≡ a .samples + length (sampleBytes 0 (samplesAll K))
+  pub text : a .text ≡ a .components + length (componentBytes (componentsAll K))
 
 module _ (K : Book) (clear : K .opened ≡ noParameter) (none : K .parts ≡ []) where
   all-samples : samplesIn (K .parameters) ≡ samplesAll K
@@ -56,29 +52,29 @@ module _ (K : Book) (clear : K .opened ≡ noParameter) (none : K .parts ≡ [])
       ap componentsIn all-samples
       ∙ sym (ap (λ (cs : List Component). componentsIn (samplesAll K) ++ cs) none ∙ nil-end (componentsIn (samplesAll K)))
 
-  all-text : textPart (K .parameters) ≡ textAll K
+  all-text : textBytes (K .parameters) ≡ textAll K
   unfolding texts
-  all-text = sym (ap (λ (p : Parameter). textPart (K .parameters) ++ texts p) clear ∙ nil-end (textPart (K .parameters)))
+  all-text = sym (ap (λ (p : Parameter). textBytes (K .parameters) ++ texts p) clear ∙ nil-end (textBytes (K .parameters)))
 
   -- the table's writing by what was gathered
-  pub gathered : write 1 (contentOf K) ≡ fieldBytes (headerFields 1 (contentOf K)) ++ (copiesPart (copies (length (K .pairs)) (K .declared)) (K .pairs) ++ (parameterPart 0 0 (K .parameters) ++ (samplePart 0 (samplesAll K) ++ (componentPart (componentsAll K) ++ textAll K))))
+  pub gathered : write newest (contentOf K) ≡ headerOf (contentOf K) ++ (copiesBytes (copies (length (K .pairs)) (K .declared)) (K .pairs) ++ (parameterBytes 0 0 (K .parameters) ++ (sampleBytes 0 (samplesAll K) ++ (componentBytes (componentsAll K) ++ textAll K))))
   gathered =
       written (contentOf K)
-      ∙ ap (λ (l : List ℕ). fieldBytes (headerFields 1 (contentOf K)) ++ l)
+      ∙ ap (λ (l : List ℕ). headerOf (contentOf K) ++ l)
       (ap₂ _++_ (spread-copied (K .declared) (K .pairs))
-      (ap (λ (l : List ℕ). parameterPart 0 0 (K .parameters) ++ l)
-      (ap₂ _++_ (ap (samplePart 0) all-samples) (ap₂ _++_ (ap componentPart all-components) all-text))))
+      (ap (λ (l : List ℕ). parameterBytes 0 0 (K .parameters) ++ l)
+      (ap₂ _++_ (ap (sampleBytes 0) all-samples) (ap₂ _++_ (ap componentBytes all-components) all-text))))
 
   pub table-laid : (out : List ℕ) (a : Places) → Placed a (copies (length (K .pairs)) (K .declared)) K → a .text + length (textAll K) ≤ length out
-      → put (laid out a (copies (length (K .pairs)) (K .declared)) K) 0 (fieldBytes (headerFields 1 (contentOf K))) ≡ write 1 (contentOf K) ++ drop (length (write 1 (contentOf K))) out
+      → put (laid out a (copies (length (K .pairs)) (K .declared)) K) 0 (headerOf (contentOf K)) ≡ write newest (contentOf K) ++ drop (length (write newest (contentOf K))) out
   table-laid out a q h =
       let n = copies (length (K .pairs)) (K .declared) in
-      let u = copiesPart n (K .pairs) in
-      let v = parameterPart 0 0 (K .parameters) in
-      let w = samplePart 0 (samplesAll K) in
-      let x = componentPart (componentsAll K) in
+      let u = copiesBytes n (K .pairs) in
+      let v = parameterBytes 0 0 (K .parameters) in
+      let w = sampleBytes 0 (samplesAll K) in
+      let x = componentBytes (componentsAll K) in
       let y = textAll K in
-      let z = fieldBytes (headerFields 1 (contentOf K)) in
+      let z = headerOf (contentOf K) in
       let m1 = length-append x y in
       let m2 = length-append w (x ++ y) in
       let m3 = length-append v (w ++ (x ++ y)) in

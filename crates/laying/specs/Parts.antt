@@ -1,54 +1,77 @@
--- Not part of the meaning: the parts of a table along the lists of what was gathered, so that a line's share stands at the
--- end of its part.
+-- Not part of the meaning: the parts of a new table along the lists of what was gathered, so that a line's share stands at
+-- the end of its part. Where an item stands in its entry is the newest form's matter.
 use Prim.Native.Nat.{ℕ, _+_, _*_, _≤_}
 use mathlib.Core.List.{List, [], _∷_, _++_}
 use mathlib.Core.Bool.{cond}
 use lib.Dec.{eqb}
-use lib.ListN.{length}
+use lib.ListN.{length, getD}
 use Rattle.lay.specs.Below.{flat}
 use Rattle.lay.specs.Bytes.{put}
-use Rattle.lay.specs.Fields.{Field, fld, fieldBytes}
-use Rattle.model.specs.Content.{Subframe, Parameter, Sample, Component}
+use Rattle.lay.specs.Slots.{span, entryBytes}
+use Rattle.lay.specs.Layout.{Layout, slotsOf}
+use Rattle.model.specs.Content.{Content, Subframe, Parameter, Sample, Component}
+use Rattle.model.specs.Items.{subframePart, parameterPart, samplePart, componentPart}
+use Rattle.model.specs.Forms.{newest, layoutOf}
+use Rattle.model.specs.Write.{texts, bit, headValues, subframeValues, componentValues}
 use Rattle.gather.specs.Book.{Book}
-use Rattle.model.specs.Write.{texts, bit, subframeFields, componentFields}
+
+abbrev pub newLayout : Layout
+newLayout = layoutOf newest
+
+-- how many bytes an entry of part p takes, and the entry of these values
+abbrev pub size : ℕ → ℕ
+size p = span (slotsOf newLayout p)
+
+abbrev pub entry : ℕ → List ℕ → List ℕ
+entry p xs = entryBytes (slotsOf newLayout p) (λ k. getD xs k 0)
+
+-- the header of these values
+abbrev pub headSize : ℕ
+headSize = span (newLayout .header)
+
+abbrev pub header : List ℕ → List ℕ
+header xs = entryBytes (newLayout .header) (λ k. getD xs k 0)
+
+abbrev pub headerOf : Content → List ℕ
+headerOf c = header (headValues newLayout newest c)
 
 -- one parameter, so many bytes of text and samples before it
-abbrev pub parameterEntry : Parameter → ℕ → ℕ → List Field
-parameterEntry p start first =
-    fld 1 (length (p .name))
-    ∷ fld 1 (length (p .mnemonic))
-    ∷ fld 1 (length (p .identification))
-    ∷ fld 1 (bit (p .signed) + 2 * bit (p .identifier))
-    ∷ fld 4 start
-    ∷ fld 2 first
-    ∷ fld 2 (length (p .samples))
-    ∷ fld 4 (p .value)
+unfoldable pub parameterFrom : Parameter → ℕ → ℕ → List ℕ
+parameterFrom p start first =
+    length (p .name)
+    ∷ length (p .mnemonic)
+    ∷ length (p .identification)
+    ∷ (bit (p .signed) + 2 * bit (p .identifier))
+    ∷ start
+    ∷ first
+    ∷ length (p .samples)
+    ∷ p .value
     ∷ []
 
 -- one sample, so many components before it
-abbrev pub sampleEntry : Sample → ℕ → List Field
-sampleEntry s first = fld 4 (s .time) ∷ fld 2 first ∷ fld 2 (length (s .components)) ∷ []
+unfoldable pub sampleFrom : Sample → ℕ → List ℕ
+sampleFrom s first = s .time ∷ first ∷ length (s .components) ∷ []
 
-unfoldable pub subframePart : List Subframe → List ℕ
-subframePart [] = []
-subframePart (f ∷ fs) = fieldBytes (subframeFields f) ++ subframePart fs
+unfoldable pub subframeBytes : List Subframe → List ℕ
+subframeBytes [] = []
+subframeBytes (f ∷ fs) = entry subframePart (subframeValues f) ++ subframeBytes fs
 
-unfoldable pub parameterPart : ℕ → ℕ → List Parameter → List ℕ
-parameterPart t q [] = []
-parameterPart t q (p ∷ ps) =
-    fieldBytes (parameterEntry p t q) ++ parameterPart (t + length (texts p)) (q + length (p .samples)) ps
+unfoldable pub parameterBytes : ℕ → ℕ → List Parameter → List ℕ
+parameterBytes t q [] = []
+parameterBytes t q (p ∷ ps) =
+    entry parameterPart (parameterFrom p t q) ++ parameterBytes (t + length (texts p)) (q + length (p .samples)) ps
 
-unfoldable pub samplePart : ℕ → List Sample → List ℕ
-samplePart n [] = []
-samplePart n (s ∷ ss) = fieldBytes (sampleEntry s n) ++ samplePart (n + length (s .components)) ss
+unfoldable pub sampleBytes : ℕ → List Sample → List ℕ
+sampleBytes n [] = []
+sampleBytes n (s ∷ ss) = entry samplePart (sampleFrom s n) ++ sampleBytes (n + length (s .components)) ss
 
-unfoldable pub componentPart : List Component → List ℕ
-componentPart [] = []
-componentPart (c ∷ cs) = fieldBytes (componentFields c) ++ componentPart cs
+unfoldable pub componentBytes : List Component → List ℕ
+componentBytes [] = []
+componentBytes (c ∷ cs) = entry componentPart (componentValues c) ++ componentBytes cs
 
-unfoldable pub textPart : List Parameter → List ℕ
-textPart [] = []
-textPart (p ∷ ps) = texts p ++ textPart ps
+unfoldable pub textBytes : List Parameter → List ℕ
+textBytes [] = []
+textBytes (p ∷ ps) = texts p ++ textBytes ps
 
 -- all samples of parameters, all components of samples
 unfoldable pub samplesIn : List Parameter → List Sample
@@ -59,10 +82,13 @@ unfoldable pub componentsIn : List Sample → List Component
 componentsIn [] = []
 componentsIn (s ∷ ss) = s .components ++ componentsIn ss
 
--- each record pair so many times: once for each subframe where it stands for all
-unfoldable pub copiesPart : ℕ → List Subframe → List ℕ
-copiesPart n [] = []
-copiesPart n (f ∷ fs) = flat n (λ i. fieldBytes (subframeFields f)) ++ copiesPart n fs
+-- one record pair so many times: once for each subframe where it stands for all
+abbrev pub copied : ℕ → Subframe → List ℕ
+copied n f = flat n (λ i. entry subframePart (subframeValues f))
+
+unfoldable pub copiesBytes : ℕ → List Subframe → List ℕ
+copiesBytes n [] = []
+copiesBytes n (f ∷ fs) = copied n f ++ copiesBytes n fs
 
 -- how many times, with so many pairs in all
 abbrev pub copies : ℕ → ℕ → ℕ
@@ -76,7 +102,7 @@ abbrev pub componentsAll : Book → List Component
 componentsAll K = componentsIn (samplesAll K) ++ K .parts
 
 abbrev pub textAll : Book → List ℕ
-textAll K = textPart (K .parameters) ++ texts (K .opened)
+textAll K = textBytes (K .parameters) ++ texts (K .opened)
 
 -- ---- a table in the making
 
@@ -91,16 +117,16 @@ pub record Places : Type 0 where
 -- out with all that was gathered laid down, each pair n times
 abbrev pub laid : List ℕ → Places → ℕ → Book → List ℕ
 laid out a n K =
-    put (put (put (put (put out (a .subframes) (copiesPart n (K .pairs)))
-    (a .parameters) (parameterPart 0 0 (K .parameters)))
-    (a .samples) (samplePart 0 (samplesAll K)))
-    (a .components) (componentPart (componentsAll K)))
+    put (put (put (put (put out (a .subframes) (copiesBytes n (K .pairs)))
+    (a .parameters) (parameterBytes 0 0 (K .parameters)))
+    (a .samples) (sampleBytes 0 (samplesAll K)))
+    (a .components) (componentBytes (componentsAll K)))
     (a .text) (textAll K)
 
 -- each part ends before the next begins
 pub record Fits (a : Places) (n : ℕ) (K : Book) (long : ℕ) : Type 0 where
-  pub subframes : a .subframes + length (copiesPart n (K .pairs)) ≤ a .parameters
-  pub parameters : a .parameters + length (parameterPart 0 0 (K .parameters)) ≤ a .samples
-  pub samples : a .samples + length (samplePart 0 (samplesAll K)) ≤ a .components
-  pub components : a .components + length (componentPart (componentsAll K)) ≤ a .text
+  pub subframes : a .subframes + length (copiesBytes n (K .pairs)) ≤ a .parameters
+  pub parameters : a .parameters + length (parameterBytes 0 0 (K .parameters)) ≤ a .samples
+  pub samples : a .samples + length (sampleBytes 0 (samplesAll K)) ≤ a .components
+  pub components : a .components + length (componentBytes (componentsAll K)) ≤ a .text
   pub text : a .text + length (textAll K) ≤ long

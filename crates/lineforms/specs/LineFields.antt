@@ -7,12 +7,13 @@ use lib.ListN.{length, getD}
 use Rattle.text.specs.Fields.{fieldOf}
 use Rattle.text.specs.declared.refusal.Judged.{Judged}
 use Rattle.spell.specs.Answers.{numberJudged, amountOf}
-use Rattle.spell.specs.Texts.{longestText, longestName, textJudged, versionJudged, emptyJudged}
+use Rattle.spell.specs.Texts.{longestText, textJudged, versionJudged, emptyJudged}
 use Rattle.spell.specs.Truths.{truthJudged, truthOrEmptyJudged}
 use Rattle.spell.specs.Integers.{mostOfSix, integerJudged, integerOf, declaredJudged, overlapJudged, marginOf, labelJudged}
 use Rattle.spell.specs.Decimals.{decimalJudged, delayJudged}
 use Rattle.spell.specs.BitRanges.{componentBitsJudged, sourceBitsJudged}
 use Rattle.spell.specs.Durations.{secondsJudged}
+use Rattle.model.specs.Forms.{sheetLimits}
 
 -- text that may be empty, and text that may not
 abbrev pub optional : List ℕ → Judged
@@ -40,7 +41,7 @@ headerRest l =
     truthJudged (fieldOf 8 l)
     ∷ emptyJudged (fieldOf 9 l)
     ∷ emptyJudged (fieldOf 10 l)
-    ∷ integerJudged 6 1 32 (fieldOf 11 l)
+    ∷ integerJudged 6 1 (sheetLimits .subframes) (fieldOf 11 l)
     ∷ optional (fieldOf 12 l)
     ∷ optional (fieldOf 13 l)
     ∷ []
@@ -52,19 +53,19 @@ headerFields l = headerTexts l ++ headerRest l
 -- and trailing 0 to 4,095"
 abbrev pub recordFields : List ℕ → List Judged
 recordFields l =
-    integerJudged 6 1 16 (fieldOf 0 l)
-    ∷ integerJudged 6 1 1024 (fieldOf 1 l)
-    ∷ numberJudged (marginOf 4095 (fieldOf 2 l))
-    ∷ numberJudged (marginOf 4095 (fieldOf 3 l))
+    integerJudged 6 1 (sheetLimits .bits) (fieldOf 0 l)
+    ∷ integerJudged 6 1 (sheetLimits .words) (fieldOf 1 l)
+    ∷ numberJudged (marginOf (sheetLimits .margin) (fieldOf 2 l))
+    ∷ numberJudged (marginOf (sheetLimits .margin) (fieldOf 3 l))
     ∷ secondsJudged (fieldOf 4 l)
     ∷ []
 
 -- "7 fields: name (mandatory), mnemonic, identification, record identifier (Boolean), one that must be empty, date, comments"
 abbrev pub nameFields : List ℕ → List Judged
 nameFields l =
-    textJudged longestName true (fieldOf 0 l)
-    ∷ textJudged longestName false (fieldOf 1 l)
-    ∷ textJudged longestName false (fieldOf 2 l)
+    textJudged (sheetLimits .text) true (fieldOf 0 l)
+    ∷ textJudged (sheetLimits .text) false (fieldOf 1 l)
+    ∷ textJudged (sheetLimits .text) false (fieldOf 2 l)
     ∷ truthJudged (fieldOf 3 l)
     ∷ emptyJudged (fieldOf 4 l)
     ∷ optional (fieldOf 5 l)
@@ -108,7 +109,7 @@ signedFields l =
 
 -- "For a record identifier the range is one integer and mandatory; otherwise text"
 unfoldable pub rangeJudged : Bool → List ℕ → Judged
-rangeJudged identifier f = cond identifier (integerJudged 10 0 4294967295 f) (optional f)
+rangeJudged identifier f = cond identifier (integerJudged 10 0 (sheetLimits .value) f) (optional f)
 
 -- "4 fields: range, one that must be empty, resolution, delay"
 abbrev pub rangeFields : Bool → List ℕ → List Judged

@@ -13,13 +13,14 @@ use Rattle.spell.specs.declared.answers.Bits.{Bits}
 use Rattle.spell.specs.declared.answers.Bits.the-variants as bits
 use Rattle.spell.specs.declared.answers.Seconds.{Seconds}
 use Rattle.spell.specs.declared.answers.Seconds.the-variants as seconds
+use Rattle.model.specs.Forms.{sheetLimits}
 use Rattle.lineforms.specs.LineFields.{subframeIn}
 use Rattle.lineforms.specs.declared.said.Pair.{Pair}
 use Rattle.lineforms.specs.declared.said.Part.{Part}
 
 -- the header line: field 12 is the subframe count, field 9 says sequential
 abbrev pub subframesIn : List ℕ → ℕ
-subframesIn l = amountOf (integerOf 6 1 32 (fieldOf 11 l))
+subframesIn l = amountOf (integerOf 6 1 (sheetLimits .subframes) (fieldOf 11 l))
 
 abbrev pub sequentialIn : List ℕ → Bool
 sequentialIn l = saysTrue (fieldOf 8 l)
@@ -36,10 +37,10 @@ denominatorOf (seconds.Refused r) = 0
 abbrev pub pairIn : List ℕ → Pair
 pairIn l =
     record {
-      bits = amountOf (integerOf 6 1 16 (fieldOf 0 l));
-      words = amountOf (integerOf 6 1 1024 (fieldOf 1 l));
-      leading = amountOf (marginOf 4095 (fieldOf 2 l));
-      trailing = amountOf (marginOf 4095 (fieldOf 3 l));
+      bits = amountOf (integerOf 6 1 (sheetLimits .bits) (fieldOf 0 l));
+      words = amountOf (integerOf 6 1 (sheetLimits .words) (fieldOf 1 l));
+      leading = amountOf (marginOf (sheetLimits .margin) (fieldOf 2 l));
+      trailing = amountOf (marginOf (sheetLimits .margin) (fieldOf 3 l));
       numerator = numeratorOf (secondsOf (fieldOf 4 l));
       denominator = denominatorOf (secondsOf (fieldOf 4 l));
     }
@@ -83,4 +84,4 @@ signedIn l = saysTrue (fieldOf 0 l)
 
 -- the 4-field line of a record identifier
 abbrev pub valueIn : List ℕ → ℕ
-valueIn l = amountOf (integerOf 10 0 4294967295 (fieldOf 0 l))
+valueIn l = amountOf (integerOf 10 0 (sheetLimits .value) (fieldOf 0 l))

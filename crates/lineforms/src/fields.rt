@@ -1,5 +1,11 @@
 // The tests of a line's fields, left to right: one function for each kind of line.
 use crate::said::subframe_in;
+use model::limits::BITS;
+use model::limits::MARGIN;
+use model::limits::SUBFRAMES;
+use model::limits::TEXT;
+use model::limits::VALUE;
+use model::limits::WORDS;
 use spell::answers::bits_judged;
 use spell::answers::number_judged;
 use spell::answers::seconds_judged;
@@ -77,7 +83,7 @@ pub fn header_fields(line: &[u8]) -> Judged
     let a = or_else(header_texts(line), truth_at(line, 8));
     let b = or_else(a, empty_at(line, 9));
     let c = or_else(b, empty_at(line, 10));
-    let d = or_else(c, integer_at(line, 11, 6, 1, 32));
+    let d = or_else(c, integer_at(line, 11, 6, 1, SUBFRAMES as u64));
     let e = or_else(d, text_at(line, 12, 200, false));
     or_else(e, text_at(line, 13, 200, false))
 }
@@ -85,19 +91,19 @@ pub fn header_fields(line: &[u8]) -> Judged
 pub fn record_fields(line: &[u8]) -> Judged
     ensures { λ r. ⌜ r ≡ first (recordFields (now (line .entry))) ⌝ }
 {
-    let a = integer_at(line, 0, 6, 1, 16);
-    let b = or_else(a, integer_at(line, 1, 6, 1, 1024));
-    let c = or_else(b, number_judged(margin(field_of(line, 2), 4095)));
-    let d = or_else(c, number_judged(margin(field_of(line, 3), 4095)));
+    let a = integer_at(line, 0, 6, 1, BITS as u64);
+    let b = or_else(a, integer_at(line, 1, 6, 1, WORDS as u64));
+    let c = or_else(b, number_judged(margin(field_of(line, 2), MARGIN as u64)));
+    let d = or_else(c, number_judged(margin(field_of(line, 3), MARGIN as u64)));
     or_else(d, seconds_judged(seconds(field_of(line, 4))))
 }
 
 pub fn name_fields(line: &[u8]) -> Judged
     ensures { λ r. ⌜ r ≡ first (nameFields (now (line .entry))) ⌝ }
 {
-    let a = text_at(line, 0, 64, true);
-    let b = or_else(a, text_at(line, 1, 64, false));
-    let c = or_else(b, text_at(line, 2, 64, false));
+    let a = text_at(line, 0, TEXT, true);
+    let b = or_else(a, text_at(line, 1, TEXT, false));
+    let c = or_else(b, text_at(line, 2, TEXT, false));
     let d = or_else(c, truth_at(line, 3));
     let e = or_else(d, empty_at(line, 4));
     let f = or_else(e, text_at(line, 5, 200, false));
@@ -162,7 +168,7 @@ fn range_judged(line: &[u8], identifier: bool) -> Judged
     ensures { λ r. ⌜ r ≡ rangeJudged identifier (fieldOf 0 (now (line .entry))) ⌝ }
 {
     if identifier {
-        return integer_at(line, 0, 10, 0, 4294967295);
+        return integer_at(line, 0, 10, 0, VALUE as u64);
     }
     text_at(line, 0, 200, false)
 }

@@ -1,4 +1,9 @@
 // What a line says, once its tests pass.
+use model::limits::BITS;
+use model::limits::MARGIN;
+use model::limits::SUBFRAMES;
+use model::limits::VALUE;
+use model::limits::WORDS;
 use spell::answers::Bits;
 use spell::answers::Seconds;
 use spell::answers::amount;
@@ -35,7 +40,7 @@ pub struct Part {
 pub fn subframes_in(line: &[u8]) -> u64
     ensures { λ r. ⌜ r ≡ subframesIn (now (line .entry)) ⌝ }
 {
-    amount(integer(field_of(line, 11), 6, 1, 32))
+    amount(integer(field_of(line, 11), 6, 1, SUBFRAMES as u64))
 }
 
 pub fn sequential_in(line: &[u8]) -> bool
@@ -73,10 +78,10 @@ pub fn pair_in(line: &[u8]) -> Pair
 {
     let x = seconds(field_of(line, 4));
     Pair {
-        bits: amount(integer(field_of(line, 0), 6, 1, 16)),
-        words: amount(integer(field_of(line, 1), 6, 1, 1024)),
-        leading: amount(margin(field_of(line, 2), 4095)),
-        trailing: amount(margin(field_of(line, 3), 4095)),
+        bits: amount(integer(field_of(line, 0), 6, 1, BITS as u64)),
+        words: amount(integer(field_of(line, 1), 6, 1, WORDS as u64)),
+        leading: amount(margin(field_of(line, 2), MARGIN as u64)),
+        trailing: amount(margin(field_of(line, 3), MARGIN as u64)),
         numerator: numerator_of(x),
         denominator: denominator_of(x),
     }
@@ -144,5 +149,5 @@ pub fn signed_in(line: &[u8]) -> bool
 pub fn value_in(line: &[u8]) -> u64
     ensures { λ r. ⌜ r ≡ valueIn (now (line .entry)) ⌝ }
 {
-    amount(integer(field_of(line, 0), 10, 0, 4294967295))
+    amount(integer(field_of(line, 0), 10, 0, VALUE as u64))
 }

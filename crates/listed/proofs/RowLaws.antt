@@ -18,6 +18,7 @@ use Rattle.io.specs.Counts.{Counts}
 use Rattle.lay.specs.Below.{flat}
 use Rattle.lay.specs.Bytes.{put}
 use Rattle.lay.proofs.Puts.{length-put, put-none}
+use Rattle.model.specs.Forms.{sheetLimits}
 use Rattle.model.specs.Content.{Parameter, Sample, parameter}
 use Rattle.model.specs.Samples.{widthOf}
 use Rattle.model.specs.Stored.{parametersIn, sampleCountIn, firstSampleIn, nameIn}
@@ -30,9 +31,9 @@ use Rattle.model.proofs.Pieces.{width-some}
 use Rattle.framing.specs.Reading.{rawOf, widthIs, valueOf, sampleRead}
 use Rattle.framing.specs.declared.read.Reading.{Reading}
 use Rattle.framing.specs.declared.read.Reading.the-variants as reading
-use Rattle.framing.specs.declared.want.Wanted.{Wanted}
+use Rattle.table.specs.declared.reason.Reason.{Reason}
 use Rattle.listed.specs.Lines.{rowText}
-use Rattle.listed.specs.Listing.{sampleRow}
+use Rattle.listed.specs.Listing.{sampleRow, rowMost}
 use Rattle.listed.proofs.DecimalLaws.{decimal-short}
 use Rattle.listed.proofs.LineLaws.{Step, then-step, value-short, front-counts}
 
@@ -70,26 +71,26 @@ module _ (b : List ℕ) (h : Ruled b) (i : ℕ) (l : i < parametersIn b) where
   unfolding parameterAt
   name-is = ap (λ (p : Parameter). p .name) (parameter-view b i l)
 
-  pub name-short : length (nameIn b i) ≤ 64
+  pub name-short : length (nameIn b i) ≤ sheetLimits .text
   unfolding parameterAt
-  name-short = h .parameters .each i l .name .short
+  name-short = omega (arith, h .parameters .each i l .name .short, h .subframes .within .text)
 
   pub count-is : length (parameter (view b) i .samples) ≡ sampleCountIn b i
   count-is = samples-are b i l
 
-  pub count-short : sampleCountIn b i ≤ 64
-  count-short = let k = h .parameters .each i l .few in omega (arith, k, samples-at b i)
+  pub count-short : sampleCountIn b i ≤ sheetLimits .samplesEach
+  count-short = let k = h .parameters .each i l .few in omega (arith, k, h .subframes .within .samplesEach, samples-at b i)
 
-  pub row-most : (f : List ℕ) (j : ℕ) → length (sampleRow (view b) f i j) ≤ 150
+  pub row-most : (f : List ℕ) (j : ℕ) → length (sampleRow (view b) f i j) ≤ rowMost
   unfolding sampleRow
   row-most f j = omega (arith, row-short (parameter (view b) i .name) (j + 1) (widthIs (view b) i j) (rawOf (view b) f i j) (valueOf (view b) f i j), ap length name-is, name-short)
 
   -- ---- a listed sample's value fits the machine's number
 
   module _ (f : List ℕ) (j : ℕ) (m : j < sampleCountIn b i) where
-    width-most : widthIs (view b) i j ≤ 32
+    width-most : widthIs (view b) i j ≤ sheetLimits .width
     unfolding widthIs
-    width-most = let k = listed-at b i j h l m in subst (λ (s : Sample). widthOf (subframesOf b) s ≤ 32) (sym (k .is)) (k .law .narrow)
+    width-most = let k = listed-at b i j h l m in subst (λ (s : Sample). widthOf (subframesOf b) s ≤ sheetLimits .width) (sym (k .is)) (omega (arith, k .law .narrow, h .subframes .within .width))
 
     width-least : 1 ≤ widthIs (view b) i j
     unfolding widthIs
@@ -118,7 +119,7 @@ module _ (b : List ℕ) (h : Ruled b) (i : ℕ) (l : i < parametersIn b) where
       ap₂ (λ (x : List ℕ) (t : Reading). rowText x (j + 1) (width-in t) (raw-in t) (value-in v t)) (n ∙ sym name-is) q in
       subst (λ (x : List ℕ). Step out o x e after) row s
 
-  pub never-refused : (f : List ℕ) (j : ℕ) (q : Wanted) → reading.Refused q ≡ sampleRead (view b) f i j → ⊥
+  pub never-refused : (f : List ℕ) (j : ℕ) (q : Reason) → reading.Refused q ≡ sampleRead (view b) f i j → ⊥
   unfolding sampleRead
   never-refused f j q e = let z : _≡_ {A = ℕ} 0 1 = cc in omega arith
 
@@ -128,13 +129,13 @@ module _ (b : List ℕ) (h : Ruled b) (i : ℕ) (l : i < parametersIn b) where
     pub rows-start : (out : List ℕ) → Rows b i row each out out 0 0
     rows-start out = record { few = omega arith; step = (refl, sym (put-none out 0)); most = omega arith; long = refl }
 
-    module _ (short : (j : ℕ) → length (row j) ≤ each) (out₀ out : List ℕ) (at j : ℕ) (w : Rows b i row each out₀ out at j) (room : each * 64 ≤ length out₀) where
+    module _ (short : (j : ℕ) → length (row j) ≤ each) (out₀ out : List ℕ) (at j : ℕ) (w : Rows b i row each out₀ out at j) (room : each * sheetLimits .samplesEach ≤ length out₀) where
       one-more : each * (j + 1) ≡ each * j + each
       one-more = rw (add-one j) (mul-suc each j)
 
       within : j < sampleCountIn b i → each * j + each ≤ length out₀
       within m =
-          let k : each * (j + 1) ≤ each * 64 = mul-le-mul-left each (omega (arith, count-short, m)) in
+          let k : each * (j + 1) ≤ each * sheetLimits .samplesEach = mul-le-mul-left each (omega (arith, count-short, m)) in
           omega (arith, k, room, one-more)
 
       pub rows-room : j < sampleCountIn b i → at + each ≤ length out
@@ -156,5 +157,5 @@ module _ (b : List ℕ) (h : Ruled b) (i : ℕ) (l : i < parametersIn b) where
           let n : length (parameter (view b) i .samples) ≡ j = omega (arith, count-is, m, w .few) in
           let s = subst (λ (k : ℕ). Step out₀ 0 (flat k row) at out) (sym n) (w .step) in
           let r : at ≡ length (flat (length (parameter (view b) i .samples)) row) = omega (arith, s .0) in
-          let k : each * j ≤ each * 64 = mul-le-mul-left each (omega (arith, count-short, w .few)) in
+          let k : each * j ≤ each * sheetLimits .samplesEach = mul-le-mul-left each (omega (arith, count-short, w .few)) in
           ((r, s .1), front-counts out₀ out (flat (length (parameter (view b) i .samples)) row) at r (s .1) (omega (arith, r, w .most, k, room)))

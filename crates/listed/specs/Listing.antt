@@ -7,9 +7,11 @@ use Rattle.lay.specs.Below.{tab, flat}
 use Rattle.lay.specs.Bytes.{numAt}
 use Rattle.lay.specs.Quoted.{quoted}
 use Rattle.model.specs.Content.{Content, parameter}
+use Rattle.model.specs.Forms.{sheetLimits}
 use Rattle.framing.specs.Reading.{rawOf, widthIs, valueOf}
 use Rattle.framing.specs.declared.fit.Fit.{Fit}
-use Rattle.framing.specs.declared.fit.Fit.the-variants.{Fits, WrongCount, TooHigh}
+use Rattle.framing.specs.declared.fit.Fit.the-variants.{Fits, Refused}
+use Rattle.table.specs.Reasons.{reasonNumber}
 use Rattle.listed.specs.Decimals.{decimalText}
 use Rattle.listed.specs.Lines.{endByte, rowText}
 
@@ -20,9 +22,17 @@ headingText = quoted "name,sample,width,raw,value" ++ (endByte ∷ [])
 unfoldable pub sampleRow : Content → List ℕ → ℕ → ℕ → List ℕ
 sampleRow c f i j = rowText (parameter c i .name) (j + 1) (widthIs c i j) (rawOf c f i j) (valueOf c f i j)
 
+-- no row is longer: numbers and commas take 86 bytes at most
+abbrev pub rowMost : ℕ
+rowMost = sheetLimits .text + 86
+
 -- all rows of parameter i
 unfoldable pub parameterRows : Content → List ℕ → ℕ → List ℕ
 parameterRows c f i = flat (length (parameter c i .samples)) (sampleRow c f i)
+
+-- they are not longer
+abbrev pub rowsMost : ℕ
+rowsMost = rowMost * sheetLimits .samplesEach
 
 -- refused N L
 unfoldable pub refusedText : ℕ → ℕ → List ℕ
@@ -32,8 +42,7 @@ refusedText n l =
 -- "19 word count of the frame differs", "20 any word of the frame at or above two to its bits"; 0 where it fits
 unfoldable pub fitNumber : Fit → ℕ
 fitNumber Fits = 0
-fitNumber WrongCount = 19
-fitNumber TooHigh = 20
+fitNumber (Refused r) = reasonNumber r
 
 -- "words of two bytes, low first"
 unfoldable pub wordsOf : List ℕ → List ℕ

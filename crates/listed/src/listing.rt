@@ -6,8 +6,13 @@ use frame::read::sample_in;
 use framing::fit::Fit;
 use framing::read::Reading;
 use lay::put::put_text;
+use model::limits::SAMPLES_EACH;
+use model::limits::SUBFRAMES;
+use model::limits::TEXT;
 use rules::texts::name_in;
+use stored::items::Opened;
 use stored::items::parameter_at;
+use table::reason::reason_number;
 ghost use mathlib.Core.Path.{_≡_};
 ghost use Prim.Native.Nat.{_+_, _*_, _≤_, _<_};
 ghost use lib.ListN.{length};
@@ -16,8 +21,15 @@ ghost use Rattle.lay.specs.Bytes.{put};
 ghost use Rattle.model.specs.Frame.{frameWords};
 ghost use Rattle.model.specs.Stored.{parametersIn, sampleCountIn};
 ghost use Rattle.model.specs.View.{view};
-ghost use Rattle.rules.specs.Ruled.{Ruled, BasesOf};
-ghost use Rattle.listed.specs.Listing.{headingText, sampleRow, parameterRows, refusedText, fitNumber, wordsOf};
+ghost use Rattle.rules.specs.Ruled.{RuledBy, BasesOf};
+ghost use Rattle.listed.specs.Listing.{headingText, sampleRow, rowMost, parameterRows, rowsMost, refusedText, fitNumber, wordsOf};
+
+// Enough for any row beside its name, any row, and any parameter's rows.
+pub const BESIDE: usize = 86;
+
+pub const ROW: usize = TEXT + BESIDE;
+
+pub const ROWS: usize = ROW * SAMPLES_EACH;
 
 // Answers where it ends, as all of these do.
 pub fn put_heading(out: &mut [u8]) -> usize
@@ -40,40 +52,40 @@ pub fn put_refused(out: &mut [u8], number: u32, line: u32) -> usize
     put_field(out, b, line as u64, 10)
 }
 
-// 01's number of a frame's fit: 0, 19 or 20.
+// 01's number of a frame's fit: 0 where it fits.
 pub fn fit_number(fit: Fit) -> u32
     ensures { λ n. ⌜ n ≡ fitNumber fit ⌝ }
 {
     match fit {
         Fit::Fits => 0,
-        Fit::WrongCount => 19,
-        Fit::TooHigh => 20,
+        Fit::Refused(reason) => reason_number(reason),
     }
 }
 
 // The row of sample j of parameter i, both counted from 0, at o.
 pub fn put_sample(
     t: &[u8],
+    opened: Opened,
     words: &[u16],
     i: usize,
     j: usize,
-    before: &[usize; 32],
+    before: &[usize; SUBFRAMES],
     out: &mut [u8],
     o: usize,
 ) -> usize
-    requires { ⌜ Ruled (now t) ⌝ }
+    requires { ⌜ RuledBy (now t) opened ⌝ }
     requires { ⌜ BasesOf (now t) (now before) ⌝ }
     requires { ⌜ i < parametersIn (now t) ⌝ }
     requires { ⌜ j < sampleCountIn (now t) i ⌝ }
     requires { ⌜ length (now words) ≡ frameWords (view (now t)) ⌝ }
-    requires { ⌜ o + 150 ≤ length (now out) ⌝ }
+    requires { ⌜ o + rowMost ≤ length (now out) ⌝ }
     ensures { λ r. ⌜ (r ≡ o + length (sampleRow (view (now (t .entry))) (now (words .entry)) i j)) × (now (out .exit) ≡ put (now (out .entry)) o (sampleRow (view (now (t .entry))) (now (words .entry)) i j)) ⌝ }
 {
-    match sample_in(t, words, i, j, before) {
+    match sample_in(t, opened, words, i, j, before) {
         Reading::Sample { raw, width, value } => put_row(
             out,
             o,
-            name_in(t, i),
+            name_in(t, opened, i),
             j as u64 + 1,
             width as u64,
             raw as u64,
@@ -83,28 +95,29 @@ pub fn put_sample(
     }
 }
 
-// All rows of parameter i, counted from 0; it has at most 64 samples.
+// All rows of parameter i, counted from 0.
 pub fn put_parameter(
     t: &[u8],
+    opened: Opened,
     words: &[u16],
     i: usize,
-    before: &[usize; 32],
+    before: &[usize; SUBFRAMES],
     out: &mut [u8],
 ) -> usize
-    requires { ⌜ Ruled (now t) ⌝ }
+    requires { ⌜ RuledBy (now t) opened ⌝ }
     requires { ⌜ BasesOf (now t) (now before) ⌝ }
     requires { ⌜ i < parametersIn (now t) ⌝ }
     requires { ⌜ length (now words) ≡ frameWords (view (now t)) ⌝ }
-    requires { ⌜ 9600 ≤ length (now out) ⌝ }
+    requires { ⌜ rowsMost ≤ length (now out) ⌝ }
     ensures { λ r. ⌜ (r ≡ length (parameterRows (view (now (t .entry))) (now (words .entry)) i)) × (now (out .exit) ≡ put (now (out .entry)) 0 (parameterRows (view (now (t .entry))) (now (words .entry)) i)) ⌝ }
     ensures { λ r. ⌜ Counts r (now (out .exit)) ⌝ }
 {
-    let e = parameter_at(t, i);
+    let e = parameter_at(t, opened, i);
     let count = e.count;
     let mut at = 0;
     let mut j = 0;
     while j < count {
-        at = put_sample(t, words, i, j, before, out, at);
+        at = put_sample(t, opened, words, i, j, before, out, at);
         j += 1;
     }
     at

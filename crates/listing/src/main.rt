@@ -6,15 +6,20 @@ mod show;
 use bench::sheets::make;
 use load::load;
 use maker::make::Made;
+use model::limits::SUBFRAMES;
+use model::limits::WORDS;
 use say::refused;
 use show::show;
 use text::refusal::refusal_number;
 
-// 65,537 and 65,538: a sheet that is too long, and a frame longer than any table's, are seen to be so.
+// One word more than a frame has at most.
+const MORE_WORDS: usize = SUBFRAMES * WORDS + 1;
+
+// A sheet that is too long, and a frame longer than any table's, are seen to be so.
 fn main() {
     let mut sheet = [0u8; 65537];
-    let mut frame = [0u8; 65538];
-    let mut words = [0u16; 32769];
+    let mut frame = [0u8; 2 * MORE_WORDS];
+    let mut words = [0u16; MORE_WORDS];
     let mut table = [0u8; 65536];
     let n = load(b"sheet.frcs", &mut sheet);
     let m = load(b"frame.bin", &mut frame);

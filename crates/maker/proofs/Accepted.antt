@@ -19,7 +19,7 @@ use Rattle.gather.proofs.Sound.{Between, Sound}
 use Rattle.gather.proofs.Steps.{sound-step}
 use Rattle.gather.proofs.Stages.{unended-run}
 use Rattle.gather.proofs.Tellings.{told}
-use Rattle.judge.specs.Counts.{Small, tallyOf}
+use Rattle.judge.specs.Counts.{mostCount, Small, tallyOf}
 use Rattle.judge.specs.Walk.{endBook, bookOf}
 use Rattle.judge.proofs.Bounds.{few, small}
 use Rattle.judge.proofs.Runs.{accepted-book}
@@ -28,14 +28,14 @@ use Rattle.maker.proofs.Ended.{end-between}
 use Rattle.maker.proofs.Walks.{accepted-on, end-on, end-clear}
 
 -- no count is too high for a number of the code
-end-small : (d : Due) (K : Book) (os : List ℕ) (k : ℕ) (ls : Lines) (c : Content) → Sound d K → Stands d K os → run d K os k ls ≡ Accepted c → Small (tallyOf (endBook d K ls)) 100000
+end-small : (d : Due) (K : Book) (os : List ℕ) (k : ℕ) (ls : Lines) (c : Content) → Sound d K → Stands d K os → run d K os k ls ≡ Accepted c → Small (tallyOf (endBook d K ls)) mostCount
 unfolding endBook run
 end-small d K os k none c h v e = small K os (few d K os h v)
 end-small d K os k (unended l) c h v e = let q = sym (unended-run d K os k l) ∙ e in let o : _≡_ {A = ℕ} 0 1 = cc in absurd (omega arith)
 end-small d K os k (line l ls) c h v e =
     let o = accepted-on d K os k l ls c e in
     let n = sound-step d K l h (o .passes) in
-    subst (λ (B : Book). Small (tallyOf B) 100000) (sym (end-on d K l ls (o .passes)))
+    subst (λ (B : Book). Small (tallyOf B) mostCount) (sym (end-on d K l ls (o .passes)))
     (end-small (dueAfter (formAt d K l)) (grow (formAt d K l) l K) (opens (formAt d K l) (k + 1) os) (k + 1) ls c n
     (stands-step (formAt d K l) K os l (k + 1) (held d K os l v) (told K l d h) (o .passes) n) (o .says))
 
@@ -45,7 +45,7 @@ pub record Ended (s : List ℕ) (c : Content) : Type 0 where
   pub same : c ≡ contentOf (bookOf s)
   pub clear : bookOf s .opened ≡ noParameter
   pub between : Between (bookOf s)
-  pub small : Small (tallyOf (bookOf s)) 100000
+  pub small : Small (tallyOf (bookOf s)) mostCount
 
 pub accepted-ended : (s : List ℕ) (c : Content) → judgeOf s ≡ Accepted c → Ended s c
 unfolding judgeOf bookOf

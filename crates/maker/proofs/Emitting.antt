@@ -3,27 +3,25 @@ use mathlib.Core.Path.{_≡_, refl, sym, ap, ap₂, _∙_}
 use mathlib.Core.Logic.{_⊎_, inl, inr}
 use mathlib.Core.List.{List, [], _∷_, _++_}
 use Prim.Native.Nat.{ℕ, _+_, _-_, _*_}
+use native.Mathlib.Nat.{mul-zero}
 use native.Mathlib.Omega.{arith}
 use lib.ListN.{length, length-append}
-use Rattle.lay.specs.Below.{flat}
 use Rattle.lay.specs.Bytes.{put}
-use Rattle.lay.specs.Fields.{Field, fieldBytes}
-use Rattle.lineforms.specs.Said.{pairIn, partIn}
 use Rattle.lineforms.specs.declared.due.Form.{Form}
 use Rattle.lineforms.specs.declared.due.Form.the-variants as form
 use Rattle.model.specs.Content.{Parameter, Sample, Subframe, noParameter}
-use Rattle.model.specs.Write.{texts, componentFields}
-use Rattle.gather.specs.Book.{Book, namedOf, componentOf, samplesOf, componentsOf, allComponentsOf}
+use Rattle.model.specs.Items.{subframePart, parameterPart, samplePart, componentPart}
+use Rattle.model.specs.Write.{texts, componentValues}
+use Rattle.gather.specs.Book.{Book, subframeOf, namedOf, componentOf, samplesOf, componentsOf, allComponentsOf}
+use Rattle.stored.specs.declared.items.Starts.{Starts}
 use Rattle.judge.specs.Counts.{textOf, tallyOf}
-use Rattle.laying.specs.Parts.{parameterEntry, sampleEntry, copiesPart, parameterPart, samplePart, componentPart, textPart, samplesIn, componentsIn, samplesAll, componentsAll, textAll}
+use Rattle.laying.specs.Parts.{size, entry, copied, parameterFrom, sampleFrom, copiesBytes, parameterBytes, textBytes, samplesIn, componentsIn, samplesAll, componentsAll, textAll}
 use Rattle.laying.proofs.Grown.{textLong}
 use Rattle.laying.proofs.Lengths.{once-long, parameters-long, samples-long, components-long, texts-long}
 use Rattle.laying.proofs.Clear.{ClearAt}
 use Rattle.laying.proofs.Shares.{timed, emitted}
-use Rattle.maker.specs.Entries.{parameterBy, sampleBy, componentBy}
+use Rattle.maker.specs.Entries.{parameterBy, sampleBy}
 use Rattle.maker.specs.Emit.{placesOf, describedBy, emitOf}
-use Rattle.maker.specs.declared.emit.Starts.{Starts}
-use Rattle.maker.proofs.ByNumbers.{said-subframe, said-component}
 
 -- ---- counts and lengths
 
@@ -72,13 +70,13 @@ module _ (K : Book) where
   pub text-clear : K .opened ≡ noParameter → length (textAll K) ≡ textOf (K .parameters)
   unfolding texts
   text-clear h =
-      omega (arith, length-append (textPart (K .parameters)) (texts (K .opened)), ap (λ (p : Parameter). length (texts p)) h, texts-long (K .parameters), text-long (K .parameters))
+      omega (arith, length-append (textBytes (K .parameters)) (texts (K .opened)), ap (λ (p : Parameter). length (texts p)) h, texts-long (K .parameters), text-long (K .parameters))
 
 -- one pair for all is the first; else each is written once
-pub copies-at : (n : ℕ) (fs : List Subframe) → (n ≡ 1) ⊎ (fs ≡ []) → length (copiesPart n fs) ≡ 20 * length fs
-unfolding copiesPart
-copies-at n fs (inl e) = ap (λ (m : ℕ). length (copiesPart m fs)) e ∙ once-long fs
-copies-at n fs (inr e) = rw e
+pub copies-at : (n : ℕ) (fs : List Subframe) → (n ≡ 1) ⊎ (fs ≡ []) → length (copiesBytes n fs) ≡ size subframePart * length fs
+unfolding copiesBytes
+copies-at n fs (inl e) = ap (λ (m : ℕ). length (copiesBytes m fs)) e ∙ once-long fs
+copies-at n fs (inr e) = rw e (sym (mul-zero (size subframePart)))
 
 -- ---- line by line
 
@@ -104,13 +102,9 @@ Pairing form.LabelLine n K = Unit {0}
 Pairing form.SourceEnd n K = Unit {0}
 Pairing form.ParameterEnd n K = Unit {0}
 
-at : (out : List ℕ) (o m : ℕ) (f g : List Field) → o ≡ m → f ≡ g → put out o (fieldBytes f) ≡ put out m (fieldBytes g)
-at out o m f g p q = ap₂ (λ (k : ℕ) (x : List Field). put out k (fieldBytes x)) p q
-
 module _ (l : List ℕ) (K : Book) (a : Starts) (n : ℕ) (out : List ℕ) where
   record-emitted : (n ≡ 1) ⊎ (K .pairs ≡ []) → emitOf form.RecordLine l (tallyOf K) a n out ≡ emitted form.RecordLine l K (placesOf a) n out
-  record-emitted h =
-      ap₂ (λ (k : ℕ) (x : List Field). put out (36 + k) (flat n (λ i. fieldBytes x))) (sym (copies-at n (K .pairs) h)) (sym (said-subframe (pairIn l)))
+  record-emitted h = ap (λ (k : ℕ). put out (a .subframes + k) (copied n (subframeOf l))) (sym (copies-at n (K .pairs) h))
 
   name-emitted : K .opened ≡ noParameter → emitOf form.NameLine l (tallyOf K) a n out ≡ emitted form.NameLine l K (placesOf a) n out
   unfolding texts
@@ -118,23 +112,22 @@ module _ (l : List ℕ) (K : Book) (a : Starts) (n : ℕ) (out : List ℕ) where
 
   part-emitted : emitOf form.ComponentLine l (tallyOf K) a n out ≡ emitted form.ComponentLine l K (placesOf a) n out
   part-emitted =
-      let e : a .components + 6 * tallyOf K .components ≡ a .components + length (componentPart (componentsAll K)) = omega (arith, components-long (componentsAll K), components-all K) in
-      at out (a .components + 6 * tallyOf K .components) (a .components + length (componentPart (componentsAll K))) (componentBy (partIn l)) (componentFields (componentOf l)) e (sym (said-component (partIn l)))
+      let e = components-long (componentsAll K) ∙ ap (λ (m : ℕ). size componentPart * m) (components-all K) in
+      ap (λ (k : ℕ). put out (a .components + k) (entry componentPart (componentValues (componentOf l)))) (sym e)
 
   time-emitted : emitOf form.TimeLine l (tallyOf K) a n out ≡ emitted form.TimeLine l K (placesOf a) n out
-  unfolding sampleBy
+  unfolding sampleBy sampleFrom
   time-emitted =
-      let e : a .samples + 8 * tallyOf K .samples ≡ a .samples + length (samplePart 0 (samplesAll K)) = omega (arith, samples-long 0 (samplesAll K), samples-all K) in
+      let e = samples-long 0 (samplesAll K) ∙ ap (λ (m : ℕ). size samplePart * m) (samples-all K) in
       let d : tallyOf K .components - tallyOf K .parts ≡ 0 + componentsOf (samplesAll K) = omega (arith, first-component K) in
-      ap₂ (λ (k m : ℕ). put out k (fieldBytes (sampleEntry (timed l K) m))) e d
+      ap₂ (λ (k m : ℕ). put out (a .samples + k) (entry samplePart (sampleFrom (timed l K) m))) (sym e) d
 
   end-emitted : emitOf form.ParameterEnd l (tallyOf K) a n out ≡ emitted form.ParameterEnd l K (placesOf a) n out
-  unfolding parameterBy
+  unfolding parameterBy parameterFrom
   end-emitted =
-      let e : a .parameters + 16 * tallyOf K .parameters ≡ a .parameters + length (parameterPart 0 0 (K .parameters)) = omega (arith, parameters-long 0 0 (K .parameters)) in
       let t : tallyOf K .text ≡ 0 + textLong (K .parameters) = omega (arith, text-long (K .parameters)) in
-      ap (λ (k : ℕ). put out k (fieldBytes (parameterBy (describedBy (tallyOf K))))) e
-      ∙ ap₂ (λ (x y : ℕ). put out (a .parameters + length (parameterPart 0 0 (K .parameters))) (fieldBytes (parameterEntry (K .opened) x y))) t (sym (first-sample K))
+      ap (λ (k : ℕ). put out (a .parameters + k) (entry parameterPart (parameterBy (describedBy (tallyOf K))))) (sym (parameters-long 0 0 (K .parameters)))
+      ∙ ap₂ (λ (x y : ℕ). put out (a .parameters + length (parameterBytes 0 0 (K .parameters))) (entry parameterPart (parameterFrom (K .opened) x y))) t (sym (first-sample K))
 
   pub emit-gathered : (f : Form) → ClearAt f K → Pairing f n K → emitOf f l (tallyOf K) a n out ≡ emitted f l K (placesOf a) n out
   emit-gathered form.Stray c p = refl

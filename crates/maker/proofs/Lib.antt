@@ -1,4 +1,4 @@
-pub mod ByNumbers
+pub mod ItemPlaces
 pub mod CopyLaws
 pub mod NamesPut
 pub mod Emitting

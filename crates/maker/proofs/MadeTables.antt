@@ -15,6 +15,7 @@ use Rattle.text.specs.declared.refusal.Refusal.the-variants.{TableTooSmall}
 use Rattle.model.specs.Accepts.{accepts}
 use Rattle.model.specs.Content.{Content}
 use Rattle.model.specs.View.{view}
+use Rattle.model.specs.Forms.{newest}
 use Rattle.model.specs.Write.{write}
 use Rattle.gather.specs.Ruling.{Ruling, Accepted, Refused, judgeOf}
 use Rattle.gather.proofs.AcceptedLawful.{accepted-table, accepted-view}
@@ -31,7 +32,7 @@ pub record MadeTable (s out : List ℕ) (n : ℕ) : Type 0 where
   pub accepted : judgeOf s ≡ Accepted content
   pub fits : n ≤ length out
   -- the first n bytes are its table: they pass the check, and say what the sheet says
-  pub table : take n (leftOf (judgeOf s) out) ≡ write 1 content
+  pub table : take n (leftOf (judgeOf s) out) ≡ write newest content
   pub passes : accepts (take n (leftOf (judgeOf s) out)) ≡ true
   pub says : view (take n (leftOf (judgeOf s) out)) ≡ content
   -- later bytes stay
@@ -42,9 +43,9 @@ length-in (made.Length n) k = n
 length-in (made.Refused q l) k = k
 
 module _ (s out : List ℕ) (n : ℕ) where
-  table-of : (c : Content) → judgeOf s ≡ Accepted c → n ≡ length (write 1 c) → n ≤ length out → leftOf (judgeOf s) out ≡ write 1 c ++ drop (length (write 1 c)) out → MadeTable s out n
+  table-of : (c : Content) → judgeOf s ≡ Accepted c → n ≡ length (write newest c) → n ≤ length out → leftOf (judgeOf s) out ≡ write newest c ++ drop (length (write newest c)) out → MadeTable s out n
   table-of c e h le p =
-      let t : take n (leftOf (judgeOf s) out) ≡ write 1 c = rw (h, p) (take-append-seam (write 1 c) (drop (length (write 1 c)) out)) in
+      let t : take n (leftOf (judgeOf s) out) ≡ write newest c = rw (h, p) (take-append-seam (write newest c) (drop (length (write newest c)) out)) in
       record {
         content = c;
         accepted = e;
@@ -52,20 +53,20 @@ module _ (s out : List ℕ) (n : ℕ) where
         table = t;
         passes = ap accepts t ∙ accepted-table s c e;
         says = ap view t ∙ accepted-view s c e;
-        later = rw (h, p) (drop-append-seam (write 1 c) (drop (length (write 1 c)) out));
+        later = rw (h, p) (drop-append-seam (write newest c) (drop (length (write newest c)) out));
       }
 
   pub made-table : madeOf (judgeOf s) (length out) ≡ made.Length n → MadeTable s out n
   made-table e = go (judgeOf s) refl e
     where
-      room : (c : Content) (b : Bool) → judgeOf s ≡ Accepted c → leb (length (write 1 c)) (length out) ≡ b → cond b (made.Length (length (write 1 c))) (made.Refused TableTooSmall 0) ≡ made.Length n → MadeTable s out n
+      room : (c : Content) (b : Bool) → judgeOf s ≡ Accepted c → leb (length (write newest c)) (length out) ≡ b → cond b (made.Length (length (write newest c))) (made.Refused TableTooSmall 0) ≡ made.Length n → MadeTable s out n
       room c true p b q =
-          let h : n ≡ length (write 1 c) = sym (ap (λ (m : Made). length-in m n) q) in
-          table-of c p h (omega (arith, h, leb-true (length (write 1 c)) (length out) b)) (ap (λ (r : Ruling). leftOf r out) p ∙ rw b)
+          let h : n ≡ length (write newest c) = sym (ap (λ (m : Made). length-in m n) q) in
+          table-of c p h (omega (arith, h, leb-true (length (write newest c)) (length out) b)) (ap (λ (r : Ruling). leftOf r out) p ∙ rw b)
       room c false p b q = let z : _≡_ {A = ℕ} 0 1 = cc in absurd (omega arith)
 
       go : (r : Ruling) → judgeOf s ≡ r → madeOf r (length out) ≡ made.Length n → MadeTable s out n
-      go (Accepted c) p q = room c (leb (length (write 1 c)) (length out)) p refl q
+      go (Accepted c) p q = room c (leb (length (write newest c)) (length out)) p refl q
       go (Refused r l) p q = let z : _≡_ {A = ℕ} 0 1 = cc in absurd (omega arith)
 
 -- ---- refused
@@ -74,7 +75,7 @@ module _ (s out : List ℕ) (n : ℕ) where
 pub record TooSmall (s out : List ℕ) (q : Refusal) (k : ℕ) : Type 0 where
   pub content : Content
   pub accepted : judgeOf s ≡ Accepted content
-  pub small : length out < length (write 1 content)
+  pub small : length out < length (write newest content)
   pub refusal : q ≡ TableTooSmall
   pub unlined : k ≡ 0
 
@@ -105,10 +106,10 @@ module _ (s out : List ℕ) (q : Refusal) (k : ℕ) where
         most = omega (arith, t .most);
       }
 
-  small-alone : (c : Content) → judgeOf s ≡ Accepted c → leb (length (write 1 c)) (length out) ≡ false → q ≡ TableTooSmall → k ≡ 0 → LeftAlone s out q k
+  small-alone : (c : Content) → judgeOf s ≡ Accepted c → leb (length (write newest c)) (length out) ≡ false → q ≡ TableTooSmall → k ≡ 0 → LeftAlone s out q k
   small-alone c p b a z =
       record {
-        why = inr (record { content = c; accepted = p; small = leb-false (length (write 1 c)) (length out) b; refusal = a; unlined = z });
+        why = inr (record { content = c; accepted = p; small = leb-false (length (write newest c)) (length out) b; refusal = a; unlined = z });
         same = ap (λ (v : Ruling). leftOf v out) p ∙ rw b;
         least = rw a (omega arith);
         most = rw a (omega arith);
@@ -117,12 +118,12 @@ module _ (s out : List ℕ) (q : Refusal) (k : ℕ) where
   pub left-alone : madeOf (judgeOf s) (length out) ≡ made.Refused q k → LeftAlone s out q k
   left-alone e = go (judgeOf s) refl e
     where
-      room : (c : Content) (b : Bool) → judgeOf s ≡ Accepted c → leb (length (write 1 c)) (length out) ≡ b → cond b (made.Length (length (write 1 c))) (made.Refused TableTooSmall 0) ≡ made.Refused q k → LeftAlone s out q k
+      room : (c : Content) (b : Bool) → judgeOf s ≡ Accepted c → leb (length (write newest c)) (length out) ≡ b → cond b (made.Length (length (write newest c))) (made.Refused TableTooSmall 0) ≡ made.Refused q k → LeftAlone s out q k
       room c true p b h = let z : _≡_ {A = ℕ} 0 1 = cc in absurd (omega arith)
       room c false p b h = small-alone c p b (sym (ap (λ (m : Made). refusal-in m q) h)) (sym (ap (λ (m : Made). line-in m k) h))
 
       go : (r : Ruling) → judgeOf s ≡ r → madeOf r (length out) ≡ made.Refused q k → LeftAlone s out q k
-      go (Accepted c) p h = room c (leb (length (write 1 c)) (length out)) p refl h
+      go (Accepted c) p h = room c (leb (length (write newest c)) (length out)) p refl h
       go (Refused r l) p h = judged-alone r l p (sym (ap (λ (m : Made). refusal-in m q) h)) (sym (ap (λ (m : Made). line-in m k) h))
 
 -- ---- as many bytes are lent afterwards as before
@@ -135,7 +136,7 @@ left-long s out = go (judgeOf s)
     room w false e = refl
 
     go : (r : Ruling) → length (leftOf r out) ≡ length out
-    go (Accepted c) = room (write 1 c) (leb (length (write 1 c)) (length out)) refl
+    go (Accepted c) = room (write newest c) (leb (length (write newest c)) (length out)) refl
     go (Refused q k) = refl
 
 -- so a table that was made lies within them

@@ -1,34 +1,39 @@
 -- What make answers and leaves, case by case. Assumes nothing.
 use mathlib.Core.Path.{_≡_, refl, sym, ap, ap₂, subst, _∙_}
 use mathlib.Core.List.{List, _++_}
-use Prim.Native.Nat.{ℕ, _≤_, _<_}
+use Prim.Native.Nat.{ℕ, _+_, _≤_, _<_}
 use native.Mathlib.Omega.{arith}
 use borrow.Author.Tests.{le-leb, lt-leb}
 use lib.ListN.{length, drop}
 use Rattle.lay.specs.Bytes.{put}
-use Rattle.lay.specs.Fields.{fieldBytes}
 use Rattle.text.specs.declared.refusal.Refusal.{Refusal}
 use Rattle.text.specs.declared.refusal.Refusal.the-variants.{TableTooSmall}
-use Rattle.model.specs.Content.{Content, Parameter}
-use Rattle.model.specs.Write.{write}
+use Rattle.model.specs.Content.{Content, Parameter, parameters}
+use Rattle.model.specs.Forms.{newest, limitsOf}
+use Rattle.model.specs.Write.{totalBy, write}
+use Rattle.model.proofs.Rows.{known-sound, known-newest}
+use Rattle.model.proofs.Fits.{ends-most, textStart-small}
+use Rattle.model.proofs.Meanings.{lawful-law}
+use Rattle.model.proofs.Statements.{newest-limits, length-new}
+use Rattle.stored.specs.Entry.{Few, StartsBy}
+use Rattle.stored.specs.declared.items.Counts.{Counts}
+use Rattle.stored.specs.declared.items.Starts.{Starts}
 use Rattle.gather.specs.Book.{componentsOf}
 use Rattle.gather.specs.Ruling.{Ruling, Accepted, Refused, judgeOf}
-use Rattle.judge.specs.Counts.{tallyOf}
+use Rattle.gather.proofs.AcceptedLawful.{accepted-lawful}
+use Rattle.judge.specs.Counts.{mostCount, tallyOf}
 use Rattle.judge.specs.Walk.{bookOf, verdictOf}
 use Rattle.judge.specs.declared.tally.Tally.{Tally}
 use Rattle.judge.specs.declared.walk.Verdict.{Verdict}
 use Rattle.judge.specs.declared.walk.Verdict.the-variants as verdict
-use Rattle.laying.specs.Parts.{copies, laid}
+use Rattle.laying.specs.Parts.{newLayout, headSize, header, copies, laid}
 use Rattle.maker.specs.Emit.{placesOf, Walkable}
-use Rattle.maker.specs.Entries.{Few, totalBy, headerBy}
+use Rattle.maker.specs.Entries.{countsOf, headBy}
 use Rattle.maker.specs.Made.{madeOf, leftOf}
-use Rattle.maker.specs.Sizes.{countsBy, startsBy}
-use Rattle.maker.specs.declared.emit.Starts.{Starts}
 use Rattle.maker.specs.declared.make.Made.{Made}
 use Rattle.maker.specs.declared.make.Made.the-variants as made
-use Rattle.maker.specs.declared.places.Counts.{Counts}
 use Rattle.maker.proofs.Accepted.{Ended, accepted-ended}
-use Rattle.maker.proofs.Making.{write-long, fits-all, table-made}
+use Rattle.maker.proofs.Making.{write-long, fits-all, head-first, table-made}
 use Rattle.maker.proofs.Room.{laid-long}
 
 -- the answer, and the lent bytes afterwards
@@ -66,98 +71,107 @@ taken s x e = go (judgeOf s) refl e
     go (Accepted c) p q = record { content = c; accepted = p; counts = sym (ap (counts-in x) q) }
     go (Refused r l) p q = let o : _≡_ {A = ℕ} 0 1 = cc in absurd (omega arith)
 
--- that many of each
-abbrev totalOf : Counts → ℕ
-totalOf n = totalBy (n .subframes) (n .parameters) (n .samples) (n .components) (n .text)
-
 -- the book of an accepted sheet
 module _ (s : List ℕ) (c : Content) (e : judgeOf s ≡ Accepted c) where
   ended : Ended s c
   ended = accepted-ended s c e
 
-  few-book : Few (countsBy (tallyOf (bookOf s)))
-  few-book =
-      let m = ended .small in
-      record {
-        subframes = omega (arith, ended .between .ground .few);
-        parameters = m .parameters;
-        samples = m .samples;
-        components = m .components;
-        text = m .text;
-      }
-
-  long-book : length (write 1 c) ≡ totalOf (countsBy (tallyOf (bookOf s)))
-  long-book =
-      ap (λ (d : Content). length (write 1 d)) (ended .same)
-      ∙ write-long (bookOf s) (ended .clear) (ended .between .noParts) (ended .between .ground .long)
-
-  few-samples : tallyOf (bookOf s) .samples ≤ 4096
-  few-samples = omega (arith, ended .between .fewSamples, ap (λ (p : Parameter). length (p .samples)) (ended .clear))
-
-  few-components : tallyOf (bookOf s) .components ≤ 4096
+  few-book : Few (limitsOf newest) (countsOf (tallyOf (bookOf s)))
   unfolding componentsOf
-  few-components = omega (arith, ended .between .fewComponents, ap (λ (p : Parameter). componentsOf (p .samples)) (ended .clear), ap length (ended .between .noParts))
+  few-book =
+      let b = ended .between in
+      rw newest-limits
+      (record {
+        subframes = omega (arith, b .ground .few);
+        parameters = omega (arith, b .whole .few);
+        samples = omega (arith, b .fewSamples, ap (λ (p : Parameter). length (p .samples)) (ended .clear));
+        components = omega (arith, b .fewComponents, ap (λ (p : Parameter). componentsOf (p .samples)) (ended .clear), ap length (b .noParts));
+      })
 
-  walk-book : (m : ℕ) → totalOf (countsBy (tallyOf (bookOf s))) ≤ m → Walkable s (startsBy (countsBy (tallyOf (bookOf s)))) (copies (tallyOf (bookOf s) .pairs) (tallyOf (bookOf s) .declared)) m
-  walk-book m h =
-      let f = ended .between .ground .few in
-      let p = ended .between .whole .few in
-      record {
-        content = c;
-        accepted = e;
-        short = ended .short;
-        small = ended .small;
-        fits = fits-all (bookOf s) (ended .clear) (ended .between .noParts) (ended .between .ground .long) m (subst (λ (d : Content). length (write 1 d) ≤ m) (ended .same) (omega (arith, long-book, h)));
-        copied = refl;
-        near = (omega (arith, f), omega (arith, f, p), omega (arith, f, p, few-samples), omega (arith, f, p, few-samples, few-components));
-      }
+  -- a table's length loses nothing in 32 bits
+  pub written-fits : length (write newest c) < 4294967296
+  unfolding totalBy
+  written-fits =
+      let r = known-sound newest known-newest in
+      let l = rw (← newest-limits) at (accepted-lawful s c e) in
+      let v = lawful-law (limitsOf newest) c l in
+      let n = length-new c (accepted-lawful s c e) in
+      let m = ends-most newest newLayout (limitsOf newest) r c v in
+      let t = textStart-small newest newLayout (limitsOf newest) r c v (parameters c) (omega arith) in
+      omega (arith, r .small)
 
-  small-book : (out : List ℕ) → length out < totalOf (countsBy (tallyOf (bookOf s))) → Leaves s out (made.Refused TableTooSmall 0) out
-  small-book out h =
-      let b = lt-leb (length (write 1 c)) (length out) (omega (arith, long-book, h)) in
-      (sym (ap (λ (r : Ruling). madeOf r (length out)) e ∙ rw b), sym (ap (λ (r : Ruling). leftOf r out) e ∙ rw b))
+  module _ (a : Starts) (q : StartsBy newLayout (countsOf (tallyOf (bookOf s))) a) where
+    long-book : length (write newest c) ≡ a .text + tallyOf (bookOf s) .text
+    long-book =
+        ap (λ (d : Content). length (write newest d)) (ended .same)
+        ∙ write-long (bookOf s) (ended .clear) (ended .between .noParts) (ended .between .ground .long) a q
 
-  made-book : (out one two : List ℕ) → totalOf (countsBy (tallyOf (bookOf s))) ≤ length out
-      → one ≡ laid out (placesOf (startsBy (countsBy (tallyOf (bookOf s))))) (copies (tallyOf (bookOf s) .pairs) (tallyOf (bookOf s) .declared)) (bookOf s)
-      → two ≡ put one 0 (fieldBytes (headerBy (countsBy (tallyOf (bookOf s))) (tallyOf (bookOf s) .sequential)))
-      → Leaves s out (made.Length (totalOf (countsBy (tallyOf (bookOf s))))) two
-  made-book out one two h p q =
-      let b = le-leb (length (write 1 c)) (length out) (omega (arith, long-book, h)) in
-      let t : two ≡ write 1 c ++ drop (length (write 1 c)) out = subst (λ (d : Content). two ≡ write 1 d ++ drop (length (write 1 d)) out) (sym (ended .same)) (table-made (bookOf s) (ended .clear) (ended .between .noParts) (ended .between .ground .long) out one two (subst (λ (d : Content). length (write 1 d) ≤ length out) (ended .same) (omega (arith, long-book, h))) p q) in
-      (sym (ap (λ (r : Ruling). madeOf r (length out)) e ∙ (rw (b, long-book))), t ∙ sym (ap (λ (r : Ruling). leftOf r out) e ∙ rw b))
+    head-book : headSize ≤ a .text
+    head-book = head-first (bookOf s) (ended .clear) (ended .between .noParts) (ended .between .ground .long) a q
+
+    walk-book : (m : ℕ) → a .text + tallyOf (bookOf s) .text ≤ m → Walkable s a (copies (tallyOf (bookOf s) .pairs) (tallyOf (bookOf s) .declared)) m
+    walk-book m h =
+        record {
+          content = c;
+          accepted = e;
+          short = ended .short;
+          small = ended .small;
+          fits = fits-all (bookOf s) (ended .clear) (ended .between .noParts) (ended .between .ground .long) a q m h;
+          copied = refl;
+        }
+
+    small-book : (out : List ℕ) → length out < a .text + tallyOf (bookOf s) .text → Leaves s out (made.Refused TableTooSmall 0) out
+    small-book out h =
+        let b = lt-leb (length (write newest c)) (length out) (omega (arith, long-book, h)) in
+        (sym (ap (λ (r : Ruling). madeOf r (length out)) e ∙ rw b), sym (ap (λ (r : Ruling). leftOf r out) e ∙ rw b))
+
+    made-book : (out one two : List ℕ) → a .text + tallyOf (bookOf s) .text ≤ length out
+        → one ≡ laid out (placesOf a) (copies (tallyOf (bookOf s) .pairs) (tallyOf (bookOf s) .declared)) (bookOf s)
+        → two ≡ put one 0 (header (headBy (countsOf (tallyOf (bookOf s))) a (a .text + tallyOf (bookOf s) .text) (tallyOf (bookOf s) .sequential)))
+        → Leaves s out (made.Length (a .text + tallyOf (bookOf s) .text)) two
+    made-book out one two h p w =
+        let b = le-leb (length (write newest c)) (length out) (omega (arith, long-book, h)) in
+        let t : two ≡ write newest c ++ drop (length (write newest c)) out = subst (λ (d : Content). two ≡ write newest d ++ drop (length (write newest d)) out) (sym (ended .same)) (table-made (bookOf s) (ended .clear) (ended .between .noParts) (ended .between .ground .long) a q out one two h p w) in
+        (sym (ap (λ (r : Ruling). madeOf r (length out)) e ∙ (rw (b, long-book))), t ∙ sym (ap (λ (r : Ruling). leftOf r out) e ∙ rw b))
 
 -- the same by the numbers that the code has
-module _ (s : List ℕ) (x : Tally) (t : Taken s x) (n : Counts) (en : n ≡ countsBy x) where
-  booked : n ≡ countsBy (tallyOf (bookOf s))
-  booked = en ∙ ap countsBy (t .counts)
+module _ (s : List ℕ) (x : Tally) (t : Taken s x) (n : Counts) (en : n ≡ countsOf x) where
+  booked : n ≡ countsOf (tallyOf (bookOf s))
+  booked = en ∙ ap countsOf (t .counts)
 
-  pub taken-few : Few n
-  taken-few = subst Few (sym booked) (few-book s (t .content) (t .accepted))
+  pub taken-few : Few (limitsOf newest) n
+  taken-few = subst (λ (m : Counts). Few (limitsOf newest) m) (sym booked) (few-book s (t .content) (t .accepted))
 
-  module _ (total : ℕ) (et : total ≡ totalOf n) where
-    pub leaves-small : (out : List ℕ) → length out < total → Leaves s out (made.Refused TableTooSmall 0) out
-    leaves-small out h = small-book s (t .content) (t .accepted) out (subst (λ (v : ℕ). length out < v) (et ∙ ap totalOf booked) h)
+  pub taken-text : x .text ≤ mostCount
+  taken-text = let m = accepted-ended s (t .content) (t .accepted) .small in rw (t .counts) (m .text)
 
-    module _ (a : Starts) (ea : a ≡ startsBy n) (f : ℕ) (ef : f ≡ copies (x .pairs) (x .declared)) where
-      starts-booked : a ≡ startsBy (countsBy (tallyOf (bookOf s)))
-      starts-booked = ea ∙ ap startsBy booked
+  module _ (a : Starts) (ea : StartsBy newLayout n a) where
+    starts-booked : StartsBy newLayout (countsOf (tallyOf (bookOf s))) a
+    starts-booked = subst (λ (m : Counts). StartsBy newLayout m a) booked ea
 
+    total-booked : a .text + x .text ≡ a .text + tallyOf (bookOf s) .text
+    total-booked = ap (λ (z : Tally). a .text + z .text) (t .counts)
+
+    pub leaves-small : (out : List ℕ) → length out < a .text + x .text → Leaves s out (made.Refused TableTooSmall 0) out
+    leaves-small out h = small-book s (t .content) (t .accepted) a starts-booked out (omega (arith, h, total-booked))
+
+    module _ (f : ℕ) (ef : f ≡ copies (x .pairs) (x .declared)) where
       copies-booked : f ≡ copies (tallyOf (bookOf s) .pairs) (tallyOf (bookOf s) .declared)
       copies-booked = ef ∙ ap (λ (z : Tally). copies (z .pairs) (z .declared)) (t .counts)
 
-      pub taken-walkable : (m : ℕ) → total ≤ m → Walkable s a f m
+      pub taken-walkable : (m : ℕ) → a .text + x .text ≤ m → Walkable s a f m
       taken-walkable m h =
-          subst (λ (b : Starts). Walkable s b f m) (sym starts-booked)
-          (subst (λ (g : ℕ). Walkable s (startsBy (countsBy (tallyOf (bookOf s)))) g m) (sym copies-booked)
-          (walk-book s (t .content) (t .accepted) m (subst (λ (v : ℕ). v ≤ m) (et ∙ ap totalOf booked) h)))
+          subst (λ (g : ℕ). Walkable s a g m) (sym copies-booked)
+          (walk-book s (t .content) (t .accepted) a starts-booked m (omega (arith, h, total-booked)))
 
       -- the header's room, still there after the walk
-      pub taken-room : (out one : List ℕ) → total ≤ length out → one ≡ laid out (placesOf a) f (bookOf s) → 36 ≤ length one
-      taken-room out one h p = omega (arith, ap length p, laid-long out a f (bookOf s) (taken-walkable (length out) h .fits), et, h)
+      pub taken-room : (out one : List ℕ) → a .text + x .text ≤ length out → one ≡ laid out (placesOf a) f (bookOf s) → headSize ≤ length one
+      taken-room out one h p =
+          omega (arith, ap length p, laid-long out a f (bookOf s) (taken-walkable (length out) h .fits), head-book s (t .content) (t .accepted) a starts-booked, h)
 
-      pub leaves-table : (out one two : List ℕ) → total ≤ length out → one ≡ laid out (placesOf a) f (bookOf s) → two ≡ put one 0 (fieldBytes (headerBy n (x .sequential))) → Leaves s out (made.Length total) two
+      pub leaves-table : (out one two : List ℕ) → a .text + x .text ≤ length out → one ≡ laid out (placesOf a) f (bookOf s) → two ≡ put one 0 (header (headBy n a (a .text + x .text) (x .sequential))) → Leaves s out (made.Length (a .text + x .text)) two
       leaves-table out one two h p q =
-          subst (λ (v : ℕ). Leaves s out (made.Length v) two) (sym (et ∙ ap totalOf booked))
-          (made-book s (t .content) (t .accepted) out one two (subst (λ (v : ℕ). v ≤ length out) (et ∙ ap totalOf booked) h)
-          (p ∙ ap₂ (λ (b : Starts) (g : ℕ). laid out (placesOf b) g (bookOf s)) starts-booked copies-booked)
-          (q ∙ ap₂ (λ (m : Counts) (z : Tally). put one 0 (fieldBytes (headerBy m (z .sequential)))) booked (t .counts)))
+          subst (λ (v : ℕ). Leaves s out (made.Length v) two) (sym total-booked)
+          (made-book s (t .content) (t .accepted) a starts-booked out one two (omega (arith, h, total-booked))
+          (p ∙ ap (λ (g : ℕ). laid out (placesOf a) g (bookOf s)) copies-booked)
+          (q ∙ ap₂ (λ (m : Counts) (z : Tally). put one 0 (header (headBy m a (a .text + z .text) (z .sequential)))) booked (t .counts)))

@@ -2,53 +2,46 @@
 use mathlib.Core.Path.{_≡_, ap, _∙_}
 use mathlib.Core.Logic.{_⊎_}
 use mathlib.Core.List.{List, [], _∷_}
-use Prim.Native.Nat.{ℕ, _*_}
+use Prim.Native.Nat.{ℕ, _+_, _*_}
+use native.Mathlib.Nat.{mul-suc}
+use native.Mathlib.Numerals.{add-one}
 use native.Mathlib.Omega.{arith}
 use lib.ListN.{length, length-append}
-use Rattle.lay.specs.Below.{flat}
 use Rattle.lay.specs.Bytes.{put}
-use Rattle.lay.specs.Fields.{fieldBytes}
-use Rattle.lay.proofs.Below.{length-flat, sum-same, sum-const}
-use Rattle.lay.proofs.Fields.{length-fields}
 use Rattle.lay.proofs.Puts.{length-put}
 use Rattle.lineforms.specs.declared.due.Form.{Form}
 use Rattle.lineforms.specs.declared.due.Form.the-variants as form
-use Rattle.model.specs.Content.{Subframe, noParameter}
-use Rattle.model.specs.Write.{texts, subframeFields}
+use Rattle.model.specs.Content.{noParameter}
+use Rattle.model.specs.Items.{parameterPart, samplePart, componentPart}
+use Rattle.model.specs.Write.{texts}
 use Rattle.gather.specs.Book.{Book, grow, subframeOf, componentOf, namedOf}
+use Rattle.stored.specs.declared.items.Starts.{Starts}
 use Rattle.judge.specs.Counts.{tallyOf}
-use Rattle.laying.specs.Parts.{copiesPart, parameterPart, samplePart, componentPart, samplesAll, componentsAll, textAll, laid, Fits}
+use Rattle.laying.specs.Parts.{size, copied, copiesBytes, parameterBytes, sampleBytes, componentBytes, samplesAll, componentsAll, textAll, laid, Fits}
 use Rattle.laying.proofs.Grown.{copies-more}
-use Rattle.laying.proofs.Lengths.{parameters-long, samples-long, components-long}
+use Rattle.laying.proofs.Lengths.{parameters-long, samples-long, components-long, copied-long}
 use Rattle.laying.proofs.Clear.{ClearAt}
 use Rattle.laying.proofs.Added.{samples-added, components-added, text-added}
 use Rattle.laying.proofs.Shares.{timed}
 use Rattle.maker.specs.Emit.{placesOf, Roomy}
-use Rattle.maker.specs.declared.emit.Starts.{Starts}
 use Rattle.maker.proofs.Emitting.{samples-all, components-all, text-clear, copies-at, Pairing}
 
-entry-long : (f : Subframe) → length (fieldBytes (subframeFields f)) ≡ 20
-unfolding subframeFields
-entry-long f = length-fields (subframeFields f)
-
-copied-long : (n : ℕ) (f : Subframe) → length (flat n (λ i. fieldBytes (subframeFields f))) ≡ 20 * n
-copied-long n f =
-    length-flat n (λ i. fieldBytes (subframeFields f))
-    ∙ sum-same n (λ k. length (fieldBytes (subframeFields f))) (λ k. 20) (λ k h. entry-long f)
-    ∙ sum-const 20 n
+-- one entry more
+grown : (p n m : ℕ) → m ≡ n + 1 → size p * m ≡ size p * n + size p
+grown p n m e = ap (λ (k : ℕ). size p * k) (e ∙ add-one n) ∙ mul-suc (size p) n
 
 -- laying down changes no length
 pub laid-long : (out : List ℕ) (a : Starts) (n : ℕ) (K : Book) → Fits (placesOf a) n K (length out) → length (laid out (placesOf a) n K) ≡ length out
 laid-long out a n K h =
-    let u = copiesPart n (K .pairs) in
-    let v = parameterPart 0 0 (K .parameters) in
-    let w = samplePart 0 (samplesAll K) in
-    let x = componentPart (componentsAll K) in
-    let t1 = put out 36 u in
+    let u = copiesBytes n (K .pairs) in
+    let v = parameterBytes 0 0 (K .parameters) in
+    let w = sampleBytes 0 (samplesAll K) in
+    let x = componentBytes (componentsAll K) in
+    let t1 = put out (a .subframes) u in
     let t2 = put t1 (a .parameters) v in
     let t3 = put t2 (a .samples) w in
     let t4 = put t3 (a .components) x in
-    let o1 = length-put out 36 u (omega (arith, h .subframes, h .parameters, h .samples, h .components, h .text)) in
+    let o1 = length-put out (a .subframes) u (omega (arith, h .subframes, h .parameters, h .samples, h .components, h .text)) in
     let o2 = length-put t1 (a .parameters) v (omega (arith, o1, h .parameters, h .samples, h .components, h .text)) in
     let o3 = length-put t2 (a .samples) w (omega (arith, o1, o2, h .samples, h .components, h .text)) in
     let o4 = length-put t3 (a .components) x (omega (arith, o1, o2, o3, h .components, h .text)) in
@@ -63,7 +56,7 @@ module _ (l : List ℕ) (K : Book) (a : Starts) (n m : ℕ) where
         arith,
         copies-at n (K .pairs) p,
         ap length (copies-more n (K .pairs) (subframeOf l)),
-        length-append (copiesPart n (K .pairs)) (flat n (λ i. fieldBytes (subframeFields (subframeOf l)))),
+        length-append (copiesBytes n (K .pairs)) (copied n (subframeOf l)),
         copied-long n (subframeOf l),
         g .subframes,
         g .parameters,
@@ -82,9 +75,8 @@ module _ (l : List ℕ) (K : Book) (a : Starts) (n m : ℕ) where
       omega (
         arith,
         components-long (componentsAll (grow form.ComponentLine l K)),
-        ap length (components-added form.ComponentLine l K tt),
-        length-append (componentsAll K) (componentOf l ∷ []),
-        components-all K,
+        grown componentPart (tallyOf K .components) (length (componentsAll (grow form.ComponentLine l K)))
+            (omega (arith, ap length (components-added form.ComponentLine l K tt), length-append (componentsAll K) (componentOf l ∷ []), components-all K)),
         g .components,
         g .text,
       )
@@ -94,9 +86,8 @@ module _ (l : List ℕ) (K : Book) (a : Starts) (n m : ℕ) where
       omega (
         arith,
         samples-long 0 (samplesAll (grow form.TimeLine l K)),
-        ap length (samples-added form.TimeLine l K tt),
-        length-append (samplesAll K) (timed l K ∷ []),
-        samples-all K,
+        grown samplePart (tallyOf K .samples) (length (samplesAll (grow form.TimeLine l K)))
+            (omega (arith, ap length (samples-added form.TimeLine l K tt), length-append (samplesAll K) (timed l K ∷ []), samples-all K)),
         g .samples,
         g .components,
         g .text,
@@ -107,7 +98,7 @@ module _ (l : List ℕ) (K : Book) (a : Starts) (n m : ℕ) where
       omega (
         arith,
         parameters-long 0 0 (grow form.ParameterEnd l K .parameters),
-        length-append (K .parameters) (K .opened ∷ []),
+        grown parameterPart (tallyOf K .parameters) (length (grow form.ParameterEnd l K .parameters)) (omega (arith, length-append (K .parameters) (K .opened ∷ []))),
         g .parameters,
         g .samples,
         g .components,

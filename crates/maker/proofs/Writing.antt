@@ -13,7 +13,7 @@ use Rattle.lay.proofs.Puts.{put-none}
 use Rattle.text.proofs.Cuts.{drop-end}
 use Rattle.text.specs.declared.refusal.Refusal.{Refusal}
 use Rattle.lines.specs.Line.{Ready, lineAt}
-use Rattle.lines.specs.Lines.{Lines, none, line, linesOf}
+use Rattle.lines.specs.Lines.{Lines, line, linesOf}
 use Rattle.lines.specs.declared.Cursor.{Cursor}
 use Rattle.lines.specs.declared.Found.the-variants as found
 use Rattle.lines.proofs.Cuts.{Next, found-next, found-refused}
@@ -26,17 +26,17 @@ use Rattle.model.specs.Content.{Content, Parameter, Subframe, noParameter}
 use Rattle.model.specs.Write.{texts}
 use Rattle.gather.specs.Book.{Book, emptyBook, grow, subframeOf}
 use Rattle.gather.specs.Ruling.{Accepted, formAt, opens, run, judgeOf}
-use Rattle.judge.specs.Counts.{Small, tallyOf, countedOf, textOf}
+use Rattle.stored.specs.declared.items.Starts.{Starts}
+use Rattle.judge.specs.Counts.{mostCount, Small, tallyOf, countedOf, textOf}
 use Rattle.judge.specs.Walk.{endBook, bookOf}
 use Rattle.judge.specs.declared.tally.Tally.{Tally}
 use Rattle.judge.proofs.Growing.{Fresh, tally-grow}
-use Rattle.laying.specs.Parts.{copiesPart, copies, parameterPart, samplePart, componentPart, textPart, samplesIn, componentsIn, textAll, laid, Fits}
+use Rattle.laying.specs.Parts.{copiesBytes, copies, parameterBytes, sampleBytes, componentBytes, textBytes, samplesIn, componentsIn, textAll, laid, Fits}
 use Rattle.laying.proofs.Clear.{Clear, ClearAt, clear-at, clear-step}
 use Rattle.laying.proofs.Lengths.{texts-long}
 use Rattle.laying.proofs.Rising.{Rises, fits-before}
 use Rattle.laying.proofs.Shares.{emit-grow}
-use Rattle.maker.specs.Emit.{placesOf, emitOf, Roomy, Modest, Walkable}
-use Rattle.maker.specs.declared.emit.Starts.{Starts}
+use Rattle.maker.specs.Emit.{placesOf, emitOf, Roomy, OpenCounted, Walkable}
 use Rattle.maker.proofs.Emitting.{samples-all, components-all, text-long, text-clear, Pairing, emit-gathered}
 use Rattle.maker.proofs.Room.{laid-long, roomy}
 use Rattle.maker.proofs.Walks.{On, accepted-on, end-on, line-kept, rises-end, end-clear, refused-not, line-there}
@@ -59,7 +59,7 @@ unfolding judgeOf
 start-says s c h e = rw (le-ltb 65536 (length s) h) at e
 
 nothing-laid : (out : List ℕ) (a : Starts) (n : ℕ) → out ≡ laid out (placesOf a) n emptyBook
-unfolding copiesPart parameterPart samplePart componentPart textPart samplesIn componentsIn texts
+unfolding copiesBytes parameterBytes sampleBytes componentBytes textBytes samplesIn componentsIn texts
 nothing-laid out a n = sym (rw (put-none, put-none, put-none, put-none, put-none))
 
 pub walk-start : (s out : List ℕ) (a : Starts) (n : ℕ) → Walkable s a n (length out) → (x : Tally) → x ≡ tallyOf emptyBook → Walk s out a n out (record { at = 0; number = 0 }) due.HeaderWord x
@@ -80,7 +80,7 @@ walk-start s out a n w x e =
 -- ---- before a line
 
 -- what the counts are at most, by what they come to
-small-before : (n : ℕ) (K G : Book) → Rises n K G → G .opened ≡ noParameter → Small (tallyOf G) 100000 → Small (tallyOf K) 100000
+small-before : (n : ℕ) (K G : Book) → Rises n K G → G .opened ≡ noParameter → Small (tallyOf G) mostCount → Small (tallyOf K) mostCount
 unfolding texts
 small-before n K G r h m =
     let q = samples-all K in
@@ -88,7 +88,7 @@ small-before n K G r h m =
     let c = components-all K in
     let C = components-all G in
     let t : length (textAll G) ≡ textOf (G .parameters) = text-clear G h in
-    let u = length-append (textPart (K .parameters)) (texts (K .opened)) in
+    let u = length-append (textBytes (K .parameters)) (texts (K .opened)) in
     let v = length-append (K .opened .name) (K .opened .mnemonic ++ K .opened .identification) in
     let w = length-append (K .opened .mnemonic) (K .opened .identification) in
     let y = texts-long (K .parameters) in
@@ -186,16 +186,14 @@ module _ (s out₀ : List ℕ) (a : Starts) (n : ℕ) (out : List ℕ) (c : Curs
   pub walk-long : length out ≡ length out₀
   walk-long = ap length (w .done) ∙ laid-long out₀ a n (w .book) fits-now
 
-  pub walk-small : Small x 100000
-  walk-small = subst (λ (y : Tally). Small y 100000) (sym (w .mine)) (small-before n (w .book) (bookOf s) rises-now end-open (w .able .small))
+  pub walk-small : Small x mostCount
+  walk-small = subst (λ (y : Tally). Small y mostCount) (sym (w .mine)) (small-before n (w .book) (bookOf s) rises-now end-open (w .able .small))
 
-  modest : Modest (tallyOf (w .book)) a
-  modest =
-      let v = w .able .near in
-      record { parameters = v .0; samples = v .1; components = v .2; text = v .3; own = omega arith; parts = omega arith }
+  open-now : OpenCounted (tallyOf (w .book))
+  open-now = record { own = omega arith; parts = omega arith }
 
-  pub walk-modest : Modest x a
-  walk-modest = subst (λ (y : Tally). Modest y a) (sym (w .mine)) modest
+  pub walk-open : OpenCounted x
+  walk-open = subst (λ (y : Tally). OpenCounted y) (sym (w .mine)) open-now
 
   -- the line that the cursor found
   module _ (st en : ℕ) (nx : Cursor) (e : lineAt s c ≡ found.Line st en nx) (l : List ℕ) (b : l ≡ part s st (en - st)) (f : Form) (g : f ≡ formOf d (x .pairs) (x .declared) l) where

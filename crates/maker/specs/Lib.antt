@@ -1,4 +1,3 @@
 pub mod Entries
 pub mod Emit
-pub mod Sizes
 pub mod Made

@@ -7,6 +7,7 @@ use lib.Dec.{leb}
 use lib.ListN.{length, drop}
 use Rattle.text.specs.Refusals.{refusalNumber}
 use Rattle.text.specs.declared.refusal.Refusal.the-variants.{TableTooSmall}
+use Rattle.model.specs.Forms.{newest}
 use Rattle.model.specs.Write.{write}
 use Rattle.gather.specs.Ruling.{Ruling, Accepted, Refused}
 use Rattle.maker.specs.declared.make.Made.{Made}
@@ -15,12 +16,12 @@ use Rattle.maker.specs.declared.make.Made.the-variants as made
 -- so many bytes are lent
 abbrev pub madeOf : Ruling → ℕ → Made
 madeOf (Accepted c) lent =
-    cond (leb (length (write 1 c)) lent) (made.Length (length (write 1 c))) (made.Refused TableTooSmall 0)
+    cond (leb (length (write newest c)) lent) (made.Length (length (write newest c))) (made.Refused TableTooSmall 0)
 madeOf (Refused q k) lent = made.Refused q k
 
 abbrev pub leftOf : Ruling → List ℕ → List ℕ
 leftOf (Accepted c) out =
-    cond (leb (length (write 1 c)) (length out)) (write 1 c ++ drop (length (write 1 c)) out) out
+    cond (leb (length (write newest c)) (length out)) (write newest c ++ drop (length (write newest c)) out) out
 leftOf (Refused q k) out = out
 
 -- 01's number of the answer: 1 to 17, or 0 for a table

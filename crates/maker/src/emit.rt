@@ -10,6 +10,7 @@ use lineforms::due::Form;
 use lineforms::said::pair_in;
 use lineforms::said::part_in;
 use lineforms::said::time_in;
+use stored::items::Starts;
 use text::field::field_of;
 ghost use mathlib.Core.Path.{_≡_};
 ghost use mathlib.Core.List.{_++_};
@@ -17,16 +18,7 @@ ghost use Prim.Native.Nat.{_+_, _≤_};
 ghost use lib.ListN.{length};
 ghost use Rattle.lay.specs.Bytes.{put};
 ghost use Rattle.text.specs.Fields.{fieldOf};
-ghost use Rattle.judge.specs.Counts.{Small};
-ghost use Rattle.maker.specs.Emit.{describedBy, emitOf, Roomy, Modest};
-
-// Where the parts begin; the subframes begin at 36.
-pub struct Starts {
-    pub parameters: usize,
-    pub samples: usize,
-    pub components: usize,
-    pub text: usize,
-}
+ghost use Rattle.maker.specs.Emit.{describedBy, emitOf, Roomy, OpenCounted};
 
 // The three texts of a name line, with nothing between.
 fn put_names(out: &mut [u8], o: usize, line: &[u8])
@@ -60,7 +52,7 @@ fn described(x: Tally) -> Described
 
 // Each record pair is written n times.
 pub fn emit(form: Form, line: &[u8], x: Tally, a: Starts, n: usize, out: &mut [u8])
-    requires { ⌜ (Small x 100000) × Modest x a × Roomy form (now line) x a n (length (now out)) ⌝ }
+    requires { ⌜ OpenCounted x × Roomy form (now line) x a n (length (now out)) ⌝ }
     ensures { λ _. ⌜ now (out .exit) ≡ emitOf form (now (line .entry)) x a n (now (out .entry)) ⌝ }
 {
     match form {
@@ -69,19 +61,16 @@ pub fn emit(form: Form, line: &[u8], x: Tally, a: Starts, n: usize, out: &mut [u
         Form::HeaderWord => {}
         Form::HeaderLine => {}
         Form::RecordWord => {}
-        Form::RecordLine => put_copies(out, 36 + 20 * x.pairs, n, pair_in(line)),
+        Form::RecordLine => put_copies(out, a.subframes, x.pairs, n, pair_in(line)),
         Form::NoneWord => {}
         Form::ParameterWord => {}
         Form::NameLine => put_names(out, a.text + x.text, line),
-        Form::OpeningComponent => put_component(
-            out,
-            a.components + 6 * x.components,
-            part_in(line),
-        ),
-        Form::ComponentLine => put_component(out, a.components + 6 * x.components, part_in(line)),
+        Form::OpeningComponent => put_component(out, a.components, x.components, part_in(line)),
+        Form::ComponentLine => put_component(out, a.components, x.components, part_in(line)),
         Form::TimeLine => put_sample(
             out,
-            a.samples + 8 * x.samples,
+            a.samples,
+            x.samples,
             time_in(line),
             x.components - x.parts,
             x.parts,
@@ -92,6 +81,6 @@ pub fn emit(form: Form, line: &[u8], x: Tally, a: Starts, n: usize, out: &mut [u
         Form::SourceLine => {}
         Form::LabelLine => {}
         Form::SourceEnd => {}
-        Form::ParameterEnd => put_parameter(out, a.parameters + 16 * x.parameters, described(x)),
+        Form::ParameterEnd => put_parameter(out, a.parameters, x.parameters, described(x)),
     }
 }

@@ -1,23 +1,27 @@
-// One entry of each kind, written at its place.
-use crate::places::Counts;
-use crate::places::component_part;
-use crate::places::parameter_part;
-use crate::places::sample_part;
-use crate::places::text_part;
-use crate::places::total_length;
-use lay::put::put_eight;
-use lay::put::put_four;
-use lay::put::put_one;
-use lay::put::put_two;
+// One entry of each kind, written at its place in the newest form. No form is known here.
+use lay::item::Place;
+use lay::item::put_item;
+use lay::item::put_long;
 use lineforms::said::Pair;
 use lineforms::said::Part;
+use stored::forms::FORM_AT;
+use stored::forms::FORM_WIDE;
+use stored::forms::NEWEST;
+use stored::forms::component_shape;
+use stored::forms::header_shape;
+use stored::forms::parameter_shape;
+use stored::forms::sample_shape;
+use stored::forms::subframe_shape;
+use stored::items::Counts;
+use stored::items::Starts;
 ghost use mathlib.Core.Path.{_≡_};
-ghost use Prim.Native.Nat.{_+_, _≤_};
+ghost use Prim.Native.Nat.{_+_, _*_, _≤_};
 ghost use lib.ListN.{length};
 ghost use Rattle.lay.specs.Bytes.{put};
-ghost use Rattle.lay.specs.Fields.{fieldBytes};
-ghost use Rattle.model.specs.Write.{bit};
-ghost use Rattle.maker.specs.Entries.{Few, countsBy, offsetsBy, headerBy, subframeBy, parameterBy, sampleBy, componentBy};
+ghost use Rattle.model.specs.Items.{subframePart, parameterPart, samplePart, componentPart};
+ghost use Rattle.model.specs.Write.{bit, subframeValues, componentValues};
+ghost use Rattle.laying.specs.Parts.{size, entry, headSize, header};
+ghost use Rattle.maker.specs.Entries.{headBy, saidSubframe, saidComponent, parameterBy, sampleBy};
 
 // What a parameter's entry holds: its texts' lengths, its flags, where its text starts within the text part, its first
 // sample and how many it has, and its value as an identifier.
@@ -39,81 +43,87 @@ fn bit_of(t: bool) -> usize
     if t { 1 } else { 0 }
 }
 
-// The header's first 16 bytes; the form is 1.
-fn put_counts(out: &mut [u8], o: usize, n: Counts, sequential: bool)
-    requires { ⌜ (o + 16 ≤ length (now out)) × Few n ⌝ }
-    ensures { λ _. ⌜ now (out .exit) ≡ put (now (out .entry)) o (fieldBytes (countsBy n sequential)) ⌝ }
+// The header: so many entries, and the parts' beginnings. An item that the form lacks is 0 bytes wide.
+pub fn put_header(out: &mut [u8], n: Counts, a: Starts, total: usize, sequential: bool)
+    requires { ⌜ headSize ≤ length (now out) ⌝ }
+    ensures { λ _. ⌜ now (out .exit) ≡ put (now (out .entry)) 0 (header (headBy n a total sequential)) ⌝ }
 {
-    put_four(out, o, total_length(n));
-    put_two(out, o + 4, n.subframes);
-    put_two(out, o + 6, n.parameters);
-    put_two(out, o + 8, n.samples);
-    put_two(out, o + 10, n.components);
-    put_two(out, o + 12, bit_of(sequential));
-    put_two(out, o + 14, 1);
+    let s = header_shape(NEWEST);
+    let flags = bit_of(sequential);
+    put_item(out, 0, s.total, total);
+    put_item(
+        out,
+        0,
+        Place {
+            at: FORM_AT,
+            wide: FORM_WIDE,
+        },
+        NEWEST,
+    );
+    put_item(out, 0, s.flags, flags);
+    put_item(out, 0, s.zeros, 0);
+    put_item(out, 0, s.text, a.text);
+    put_item(out, 0, s.subframes, n.subframes);
+    put_item(out, 0, s.subframe, a.subframes);
+    put_item(out, 0, s.parameters, n.parameters);
+    put_item(out, 0, s.parameter, a.parameters);
+    put_item(out, 0, s.samples, n.samples);
+    put_item(out, 0, s.sample, a.samples);
+    put_item(out, 0, s.components, n.components);
+    put_item(out, 0, s.component, a.components);
 }
 
-// Where the five parts begin.
-fn put_offsets(out: &mut [u8], o: usize, n: Counts)
-    requires { ⌜ (o + 20 ≤ length (now out)) × Few n ⌝ }
-    ensures { λ _. ⌜ now (out .exit) ≡ put (now (out .entry)) o (fieldBytes (offsetsBy n)) ⌝ }
-{
-    put_four(out, o, 36);
-    put_four(out, o + 4, parameter_part(n));
-    put_four(out, o + 8, sample_part(n));
-    put_four(out, o + 12, component_part(n));
-    put_four(out, o + 16, text_part(n));
-}
-
-pub fn put_header(out: &mut [u8], o: usize, n: Counts, sequential: bool)
-    requires { ⌜ (o + 36 ≤ length (now out)) × Few n ⌝ }
-    ensures { λ _. ⌜ now (out .exit) ≡ put (now (out .entry)) o (fieldBytes (headerBy n sequential)) ⌝ }
-{
-    put_counts(out, o, n, sequential);
-    put_offsets(out, o + 16, n);
-}
-
+// The entry at o.
 pub fn put_subframe(out: &mut [u8], o: usize, p: Pair)
-    requires { ⌜ o + 20 ≤ length (now out) ⌝ }
-    ensures { λ _. ⌜ now (out .exit) ≡ put (now (out .entry)) o (fieldBytes (subframeBy p)) ⌝ }
+    requires { ⌜ o + size subframePart ≤ length (now out) ⌝ }
+    ensures { λ _. ⌜ now (out .exit) ≡ put (now (out .entry)) o (entry subframePart (subframeValues (saidSubframe p))) ⌝ }
 {
-    put_two(out, o, p.bits as usize);
-    put_two(out, o + 2, p.words as usize);
-    put_two(out, o + 4, p.leading as usize);
-    put_two(out, o + 6, p.trailing as usize);
-    put_eight(out, o + 8, p.numerator);
-    put_four(out, o + 16, p.denominator as usize);
+    let s = subframe_shape(NEWEST);
+    put_item(out, o, s.bits, p.bits as usize);
+    put_item(out, o, s.words, p.words as usize);
+    put_item(out, o, s.leading, p.leading as usize);
+    put_item(out, o, s.trailing, p.trailing as usize);
+    put_long(out, o, s.numerator, p.numerator);
+    put_item(out, o, s.denominator, p.denominator as usize);
 }
 
-pub fn put_parameter(out: &mut [u8], o: usize, d: Described)
-    requires { ⌜ o + 16 ≤ length (now out) ⌝ }
-    ensures { λ _. ⌜ now (out .exit) ≡ put (now (out .entry)) o (fieldBytes (parameterBy d)) ⌝ }
+// Entry i of a part that begins at start.
+pub fn put_parameter(out: &mut [u8], start: usize, i: usize, d: Described)
+    requires { ⌜ start + size parameterPart * i + size parameterPart ≤ length (now out) ⌝ }
+    ensures { λ _. ⌜ now (out .exit) ≡ put (now (out .entry)) (start + size parameterPart * i) (entry parameterPart (parameterBy d)) ⌝ }
 {
-    put_one(out, o, d.name);
-    put_one(out, o + 1, d.mnemonic);
-    put_one(out, o + 2, d.identification);
-    put_one(out, o + 3, bit_of(d.signed) + 2 * bit_of(d.identifier));
-    put_four(out, o + 4, d.text);
-    put_two(out, o + 8, d.first);
-    put_two(out, o + 10, d.count);
-    put_four(out, o + 12, d.value as usize);
+    let s = parameter_shape(NEWEST);
+    let o = start + s.size * i;
+    let flags = bit_of(d.signed) + 2 * bit_of(d.identifier);
+    put_item(out, o, s.name, d.name);
+    put_item(out, o, s.mnemonic, d.mnemonic);
+    put_item(out, o, s.identification, d.identification);
+    put_item(out, o, s.flags, flags);
+    put_item(out, o, s.start, d.text);
+    put_item(out, o, s.first, d.first);
+    put_item(out, o, s.count, d.count);
+    put_item(out, o, s.value, d.value as usize);
 }
 
-pub fn put_sample(out: &mut [u8], o: usize, time: u64, first: usize, count: usize)
-    requires { ⌜ o + 8 ≤ length (now out) ⌝ }
-    ensures { λ _. ⌜ now (out .exit) ≡ put (now (out .entry)) o (fieldBytes (sampleBy time first count)) ⌝ }
+pub fn put_sample(out: &mut [u8], start: usize, i: usize, time: u64, first: usize, count: usize)
+    requires { ⌜ start + size samplePart * i + size samplePart ≤ length (now out) ⌝ }
+    ensures { λ _. ⌜ now (out .exit) ≡ put (now (out .entry)) (start + size samplePart * i) (entry samplePart (sampleBy time first count)) ⌝ }
 {
-    put_four(out, o, time as usize);
-    put_two(out, o + 4, first);
-    put_two(out, o + 6, count);
+    let s = sample_shape(NEWEST);
+    let o = start + s.size * i;
+    put_item(out, o, s.time, time as usize);
+    put_item(out, o, s.first, first);
+    put_item(out, o, s.count, count);
 }
 
-pub fn put_component(out: &mut [u8], o: usize, p: Part)
-    requires { ⌜ o + 6 ≤ length (now out) ⌝ }
-    ensures { λ _. ⌜ now (out .exit) ≡ put (now (out .entry)) o (fieldBytes (componentBy p)) ⌝ }
+pub fn put_component(out: &mut [u8], start: usize, i: usize, p: Part)
+    requires { ⌜ start + size componentPart * i + size componentPart ≤ length (now out) ⌝ }
+    ensures { λ _. ⌜ now (out .exit) ≡ put (now (out .entry)) (start + size componentPart * i) (entry componentPart (componentValues (saidComponent p))) ⌝ }
 {
-    put_two(out, o, p.subframe as usize);
-    put_two(out, o + 2, p.word as usize);
-    put_one(out, o + 4, p.low as usize);
-    put_one(out, o + 5, p.high as usize);
+    let s = component_shape(NEWEST);
+    let o = start + s.size * i;
+    put_item(out, o, s.subframe, p.subframe as usize);
+    put_item(out, o, s.word, p.word as usize);
+    put_item(out, o, s.low, p.low as usize);
+    put_item(out, o, s.high, p.high as usize);
 }

@@ -3,5 +3,4 @@ pub mod copies;
 pub mod emit;
 pub mod entries;
 pub mod make;
-pub mod places;
 pub mod walk;

@@ -1,24 +1,19 @@
 // Making a location table: the sheet is judged first, and a byte is written only where it is accepted and its table fits.
-use crate::emit::Starts;
 use crate::entries::put_header;
-use crate::places::Counts;
-use crate::places::component_part;
-use crate::places::parameter_part;
-use crate::places::sample_part;
-use crate::places::text_part;
-use crate::places::total_length;
 use crate::walk::walk;
 use judge::tally::Tally;
 use judge::walk::Verdict;
 use judge::walk::judge;
+use stored::forms::NEWEST;
+use stored::items::Counts;
+use stored::items::starts_of;
 use text::refusal::Refusal;
 use text::refusal::refusal_number;
 ghost use mathlib.Core.Path.{_≡_};
 ghost use lib.ListN.{length};
 ghost use Rattle.gather.specs.Ruling.{judgeOf};
 ghost use Rattle.laying.specs.Parts.{copies};
-ghost use Rattle.maker.specs.Entries.{Few};
-ghost use Rattle.maker.specs.Sizes.{countsBy, startsBy};
+ghost use Rattle.maker.specs.Entries.{countsOf};
 ghost use Rattle.maker.specs.Made.{madeOf, leftOf, madeNumber};
 
 // The table's length, or why there is none and at which line; line 0 where no line is to be named.
@@ -28,26 +23,13 @@ pub enum Made {
 }
 
 fn counts_of(x: Tally) -> Counts
-    ensures { λ r. ⌜ r ≡ countsBy x ⌝ }
+    ensures { λ r. ⌜ r ≡ countsOf x ⌝ }
 {
     Counts {
         subframes: x.declared,
         parameters: x.parameters,
         samples: x.samples,
         components: x.components,
-        text: x.text,
-    }
-}
-
-fn starts_of(n: Counts) -> Starts
-    requires { ⌜ Few n ⌝ }
-    ensures { λ r. ⌜ r ≡ startsBy n ⌝ }
-{
-    Starts {
-        parameters: parameter_part(n),
-        samples: sample_part(n),
-        components: component_part(n),
-        text: text_part(n),
     }
 }
 
@@ -66,15 +48,16 @@ pub fn make(sheet: &[u8], table: &mut [u8]) -> Made
         Verdict::Refused { refusal, line } => Made::Refused { refusal, line },
         Verdict::Accepted(x) => {
             let n = counts_of(x);
-            let total = total_length(n);
+            let a = starts_of(NEWEST, n);
+            let total = a.text + x.text;
             if table.len() < total {
                 return Made::Refused {
                     refusal: Refusal::TableTooSmall,
                     line: 0,
                 };
             }
-            walk(sheet, starts_of(n), copies_of(x), table);
-            put_header(table, 0, n, x.sequential);
+            walk(sheet, a, copies_of(x), table);
+            put_header(table, n, a, total, x.sequential);
             Made::Length(total)
         }
     }

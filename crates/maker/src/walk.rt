@@ -1,5 +1,4 @@
 // The writing walk over an accepted sheet.
-use crate::emit::Starts;
 use crate::emit::emit;
 use judge::tally::counted;
 use judge::tally::nothing;
@@ -8,6 +7,7 @@ use lineforms::due::due_after;
 use lineforms::due::form_of;
 use lines::Cursor;
 use lines::Found;
+use stored::items::Starts;
 use text::part::between;
 ghost use mathlib.Core.Path.{_≡_};
 ghost use lib.ListN.{length};

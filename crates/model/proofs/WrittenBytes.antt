@@ -9,11 +9,14 @@ use lib.ListN.{length, getD}
 use Rattle.lay.specs.Below.{flat}
 use Rattle.lay.specs.Bytes.{bytesOf, AreBytes}
 use Rattle.lay.specs.Fields.{Field, fieldBytes}
-use Rattle.model.specs.Content.{Content, noComponent, subframe, subframes, parameters, allComponents}
-use Rattle.model.specs.Limits.{Limits, base}
+use Rattle.lay.specs.Slots.{Slot, fieldsBy, entryBytes}
+use Rattle.lay.specs.Layout.{Layout, Numbers, slotsOf, manyParts, counts, rowBytes, laid}
+use Rattle.model.specs.Content.{Content, parameters}
+use Rattle.model.specs.Limits.{Limits}
+use Rattle.model.specs.Forms.{layoutOf}
 use Rattle.model.specs.Lawful.{lawful}
 use Rattle.model.specs.Meaning.{TextLaw}
-use Rattle.model.specs.Write.{samples, components, texts, headerFields, subframeFields, parameterFields, sampleFields, componentFields, write}
+use Rattle.model.specs.Write.{texts, numbersOf, write}
 use Rattle.model.proofs.Meanings.{lawful-law}
 
 record Bytes (x : List ℕ) : Type 0 where
@@ -60,13 +63,22 @@ text-bytes lim t h = record { each = λ i. go i (decLt i (length t)) }
     go i (yes l) = let m = h .each i l .most in omega arith
     go i (no n) = beyond t i (omega arith)
 
-pub write-bytes : (form : ℕ) (c : Content) → lawful base c ≡ true → AreBytes (write form c)
+entry-bytes : (ss : List Slot) (v : ℕ → ℕ) → Bytes (entryBytes ss v)
+unfolding entryBytes
+entry-bytes ss v = field-bytes (fieldsBy ss v)
+
+laid-bytes : (L : Layout) (N : Numbers) → Bytes (laid L N)
+unfolding laid rowBytes
+laid-bytes L N =
+    bytes-join (entry-bytes (L .header) (N .head))
+    (row-bytes (manyParts L) _ (λ p l. row-bytes (counts N p) _ (λ i m. entry-bytes (slotsOf L p) (N .item p i))))
+
+pub write-bytes : (lim : Limits) (form : ℕ) (c : Content) → lawful lim c ≡ true → AreBytes (write form c)
 unfolding write texts
-write-bytes form c h =
-    let r = lawful-law base c h in
-    bytes-join (field-bytes (headerFields form c))
-    (bytes-join (row-bytes (subframes c) _ (λ i l. field-bytes (subframeFields (subframe c i))))
-    (bytes-join (row-bytes (parameters c) _ (λ i l. field-bytes (parameterFields c i)))
-    (bytes-join (row-bytes (samples c) _ (λ j l. field-bytes (sampleFields c j)))
-    (bytes-join (row-bytes (components c) _ (λ k l. field-bytes (componentFields (getD (allComponents c) k noComponent))))
-    (row-bytes (parameters c) _ (λ i l. let p = r .eachParameter i l in bytes-join (text-bytes base _ (p .name)) (bytes-join (text-bytes base _ (p .mnemonic)) (text-bytes base _ (p .identification))))))))) .each
+write-bytes lim form c h =
+    let r = lawful-law lim c h in
+    bytes-join (laid-bytes (layoutOf form) (numbersOf (layoutOf form) form c))
+    (row-bytes (parameters c) _
+    (λ i l.
+    let p = r .eachParameter i l in
+    bytes-join (text-bytes lim _ (p .name)) (bytes-join (text-bytes lim _ (p .mnemonic)) (text-bytes lim _ (p .identification))))) .each

@@ -15,9 +15,7 @@ fn compared_text(a: Compared) {
     match a {
         Compared::Passes => text(b"passes"),
         Compared::Differs(s) => refused(compare_number(a), s as u64),
-        Compared::NoTable => refused(compare_number(a), 0),
-        Compared::OtherCount => refused(compare_number(a), 0),
-        Compared::HighWord => refused(compare_number(a), 0),
+        Compared::Refused(_) => refused(compare_number(a), 0),
     }
 }
 

@@ -17,9 +17,6 @@ use Rattle.text.specs.declared.refusal.Refusal.the-variants.{TextTooLong, Field
 abbrev pub longestText : ℕ
 longestText = 200
 
-abbrev pub longestName : ℕ
-longestName = 64
-
 unfoldable pub textJudged : ℕ → Bool → List ℕ → Judged
 textJudged most mandatory f =
     first

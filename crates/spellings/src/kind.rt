@@ -2,6 +2,12 @@
 use crate::say::number;
 use crate::say::refused;
 use crate::say::text;
+use model::limits::BITS;
+use model::limits::MARGIN;
+use model::limits::SUBFRAMES;
+use model::limits::TEXT;
+use model::limits::VALUE;
+use model::limits::WORDS;
 use spell::answers::Bits;
 use spell::answers::Number;
 use spell::answers::Seconds;
@@ -91,11 +97,11 @@ fn seconds_text(s: Seconds) {
 pub fn answer_text(kind: u64, f: &[u8]) {
     match kind {
         0 => keyword_text(keyword_of(f)),
-        1 => number_text(integer(f, 6, 1, 1024)),
-        2 => number_text(integer(f, 6, 1, 32)),
-        3 => number_text(integer(f, 6, 1, 16)),
-        4 => number_text(margin(f, 4095)),
-        5 => number_text(integer(f, 10, 0, 4294967295)),
+        1 => number_text(integer(f, 6, 1, WORDS as u64)),
+        2 => number_text(integer(f, 6, 1, SUBFRAMES as u64)),
+        3 => number_text(integer(f, 6, 1, BITS as u64)),
+        4 => number_text(margin(f, MARGIN as u64)),
+        5 => number_text(integer(f, 10, 0, VALUE as u64)),
         6 => number_text(declared(f, 1)),
         7 => number_text(declared(f, 4)),
         8 => judged_text(overlap(f)),
@@ -109,8 +115,8 @@ pub fn answer_text(kind: u64, f: &[u8]) {
         16 => judged_text(truth_or_empty(f)),
         17 => judged_text(text_field(f, 200, false)),
         18 => judged_text(text_field(f, 200, true)),
-        19 => judged_text(text_field(f, 64, true)),
-        20 => judged_text(text_field(f, 64, false)),
+        19 => judged_text(text_field(f, TEXT, true)),
+        20 => judged_text(text_field(f, TEXT, false)),
         21 => judged_text(version(f)),
         22 => judged_text(must_be_empty(f)),
         _ => text(b"no kind"),

@@ -122,9 +122,7 @@ fn subframe_of(answer: Compared) -> u64 {
     match answer {
         Compared::Differs(subframe) => subframe as u64,
         Compared::Passes => 0,
-        Compared::NoTable => 0,
-        Compared::OtherCount => 0,
-        Compared::HighWord => 0,
+        Compared::Refused(_) => 0,
     }
 }
 

@@ -8,14 +8,17 @@ use bench::tables::name;
 use bench::tables::name_by;
 use bench::tables::name_by_number;
 use bench::tables::name_number;
+use stored::items::Opened;
+use stored::items::Opening;
 use stored::items::parameter_at;
-use stored::items::text_part;
+use table::check::opening;
 use table::naming::Asked;
-use table::naming::ask_mnemonic;
-use table::naming::ask_number;
+use table::naming::numbered;
+use table::naming::with_mnemonic;
 use text::part::between;
 ghost use mathlib.Core.Path.{_≡_};
-ghost use Rattle.table.specs.Answers.{AskedHere, placeAnswered};
+ghost use Rattle.stored.specs.Entry.{OpenedOf};
+ghost use Rattle.table.specs.Answers.{askedNumber, askedMnemonic, AskedHere, placeAnswered};
 ghost use Rattle.trial.specs.Onward.{Inside, Onward};
 
 pub fn check_case(s: &[u8], c: Cursor) -> Cursor
@@ -32,22 +35,32 @@ pub fn check_case(s: &[u8], c: Cursor) -> Cursor
 }
 
 // A slice doesn't say where it stands: the place comes from the parameter's entry. 0 where refused.
-fn start_of(t: &[u8], asked: Asked) -> usize
+fn start_in(t: &[u8], o: Opened, asked: Asked) -> usize
+    requires { ⌜ OpenedOf (now t) o ⌝ }
     requires { ⌜ AskedHere (now t) asked ⌝ }
     ensures { λ r. ⌜ r ≡ placeAnswered (now (t .entry)) asked ⌝ }
 {
     match asked {
         Asked::Parameter(i) => {
-            let e = parameter_at(t, i);
-            text_part(t) + e.start
+            let e = parameter_at(t, o, i);
+            o.starts.text + e.start
         }
-        Asked::NoTable => 0,
-        Asked::NoParameter => 0,
+        Asked::Refused(_) => 0,
+    }
+}
+
+fn start_of(t: &[u8], parameter: u32) -> usize
+    ensures { λ r. ⌜ r ≡ placeAnswered (now (t .entry)) (askedNumber (now (t .entry)) parameter) ⌝ }
+{
+    let opened = opening(t);
+    match opened {
+        Opening::Table(o) => start_in(t, o, numbered(o.counts.parameters, parameter)),
+        Opening::NotTable => 0,
     }
 }
 
 fn name_line(t: &[u8], parameter: u32) {
-    let start = start_of(t, ask_number(t, parameter));
+    let start = start_of(t, parameter);
     let found = name(t, parameter);
     four(
         6,
@@ -71,8 +84,18 @@ pub fn name_case(s: &[u8], c: Cursor) -> Cursor
     next
 }
 
+fn start_by(t: &[u8], mnemonic: &[u8]) -> usize
+    ensures { λ r. ⌜ r ≡ placeAnswered (now (t .entry)) (askedMnemonic (now (t .entry)) (now (mnemonic .entry))) ⌝ }
+{
+    let opened = opening(t);
+    match opened {
+        Opening::Table(o) => start_in(t, o, with_mnemonic(t, o, mnemonic)),
+        Opening::NotTable => 0,
+    }
+}
+
 fn mnemonic_line(t: &[u8], mnemonic: &[u8]) {
-    let start = start_of(t, ask_mnemonic(t, mnemonic));
+    let start = start_by(t, mnemonic);
     let found = name_by(t, mnemonic);
     four(
         7,

@@ -8,7 +8,9 @@ use mathlib.Core.List.{List}
 use Prim.Native.Nat.{ℕ, suc, _+_, _*_, _≤_, _<_}
 use Rattle.ratio.specs.Ratio.{lowest, lowestTerms}
 use Rattle.ratio.proofs.Reduced.{same-value, in-lowest, denominator-positive, numerator-positive, denominator-small, stays-below}
+use Rattle.model.specs.Forms.{sheetLimits}
 use Rattle.spell.specs.Digits.{number}
+use Rattle.spell.specs.Decimals.{million}
 use Rattle.spell.specs.Durations.{topOf, bottomOf, secondsJudged, secondsOf}
 use Rattle.spell.specs.declared.answers.Seconds.the-variants.{Value}
 use Rattle.written.specs.Values.{StoredSeconds}
@@ -18,24 +20,24 @@ use Rattle.written.proofs.Places.{six-below, millionths-below}
 use Rattle.written.proofs.LowestTerms.{lowest-exactly}
 use Rattle.written.proofs.Durations.{seconds-passed}
 
--- ---- a written value is below a million, and its bottom at most a million
+-- ---- a written value, of six digits, is below the limit, and its bottom within its own
 
-decimal-small : (f : List ℕ) (v : ℕ) → IsDecimal 6 f v → v < 1000000 * 1000000
+decimal-small : (f : List ℕ) (v : ℕ) → IsDecimal 6 f v → v < sheetLimits .seconds * million
 decimal-small f v (inl w) = omega (arith, w .value, six-below f (w .digits))
 decimal-small f v (inr p) = omega (arith, p .value, six-below (p .before) (p .digits .left), millionths-below (p .after) (p .digits .right))
 
 -- W D and N, N below D, is at most W + 1 times D
-mixed-small : (w n d : ℕ) → w < 1000000 → n < d → w * d + n < 1000000 * d
-mixed-small w n d h k = omega (arith, suc-mul w d, mul-le-mul-right {m = suc w} {n = 1000000} d h)
+mixed-small : (w n d : ℕ) → w < sheetLimits .seconds → n < d → w * d + n < sheetLimits .seconds * d
+mixed-small w n d h k = omega (arith, suc-mul w d, mul-le-mul-right {m = suc w} {n = sheetLimits .seconds} d h)
 
-written-below : (f : List ℕ) (top bottom : ℕ) → IsSeconds f top bottom → 1 ≤ bottom → top < 1000000 * bottom
+written-below : (f : List ℕ) (top bottom : ℕ) → IsSeconds f top bottom → 1 ≤ bottom → top < sheetLimits .seconds * bottom
 written-below f top bottom (inl d) h = omega (arith, decimal-small f top (d .digits), d .denominator)
 written-below f top bottom (inr (inl r)) h = omega (arith, r .numerator, six-below (r .above) (r .digits .left))
 written-below f top bottom (inr (inr r)) h =
     omega
-    (arith, r .numerator, r .denominator, mixed-small (number 10 (r .whole)) (number 10 (r .above)) (number 10 (r .under)) (six-below (r .whole) (r .wholeDigits)) (r .notAll))
+    (arith, r .numerator, r .denominator, mixed-small (number 10 (r .whole)) (number 10 (r .above)) (number 10 (r .under)) (omega (arith, six-below (r .whole) (r .wholeDigits))) (r .notAll))
 
-bottom-small : (f : List ℕ) (top bottom : ℕ) → IsSeconds f top bottom → bottom ≤ 1000000
+bottom-small : (f : List ℕ) (top bottom : ℕ) → IsSeconds f top bottom → bottom ≤ sheetLimits .denominator
 bottom-small f top bottom (inl d) = omega (arith, d .denominator)
 bottom-small f top bottom (inr (inl r)) = omega (arith, r .denominator, six-below (r .under) (r .digits .right))
 bottom-small f top bottom (inr (inr r)) = omega (arith, r .denominator, six-below (r .under) (r .underDigits))
@@ -51,7 +53,7 @@ stored f top bottom w a b =
       some = numerator-positive top bottom b a;
       someBelow = denominator-positive top bottom b;
       small = omega (arith, denominator-small top bottom b, bottom-small f top bottom w);
-      less = stays-below top bottom b 1000000 (written-below f top bottom w b);
+      less = stays-below top bottom b (sheetLimits .seconds) (written-below f top bottom w b);
     }
 
 -- of what is read

@@ -7,6 +7,7 @@ use mathlib.Core.List.{List, [], _∷_, _++_}
 use lib.ListN.{length, getD}
 use Rattle.lay.specs.Below.{sum}
 use Rattle.ratio.specs.Ratio.{lowest}
+use Rattle.model.specs.Forms.{sheetLimits}
 use Rattle.spell.specs.Decimals.{point, million}
 use Rattle.written.specs.Words.{Digit, Numeral}
 
@@ -39,5 +40,5 @@ pub record StoredSeconds (top bottom n d : ℕ) : Type 0 where
   pub terms : lowest n d ≡ true
   pub some : 1 ≤ n
   pub someBelow : 1 ≤ d
-  pub small : d ≤ 1000000
-  pub less : n < 1000000 * d
+  pub small : d ≤ sheetLimits .denominator
+  pub less : n < sheetLimits .seconds * d

@@ -8,19 +8,16 @@ use Rattle.speedlib.proofs.all_values.Statement.{statement}
 use Rattle.speedlib.proofs.all_values.Tie as tie
 
 abbrev Inv-loop : tie.InvT-loop
-Inv-loop t words before values₀ counts at₀ i₀ values at i = length values ≡ length values₀
+Inv-loop t o words before values₀ parameters at₀ i₀ values at i = length values ≡ length values₀
 
 abbrev μ-loop : tie.MeasureT-loop
-μ-loop t words before values₀ counts at₀ i₀ values at i = counts .parameters - i
-
-counts-of-requires : tie.Need-counts-of-requires Inv-loop μ-loop
-counts-of-requires c κs = search needs
+μ-loop t o words before values₀ parameters at₀ i₀ values at i = parameters - i
 
 loop-holds : tie.Need-loop-holds Inv-loop μ-loop
 loop-holds c = search needs
 
 parameter-values-requires : tie.Need-parameter-values-requires Inv-loop μ-loop
-parameter-values-requires c κs = let s = c .before .before .before .before .before .before .before .pre in (s .0, (s .1 .0, (omega (arith, c .before .if1 .taken, c .before .before .before .before .counts-of .ensures), s .1 .1)))
+parameter-values-requires c κs = let s = c .before .before .before .before .before .pre in (s .0, (s .1 .0, (omega (arith, c .before .loop-test .taken, s .0 .opened .counts .parameters-is), s .1 .1)))
 
 add-i : tie.Need-add-i Inv-loop μ-loop
 add-i c = search needs
@@ -43,7 +40,6 @@ all-values-spec =
     (tie.spec
     Inv-loop
     μ-loop
-    counts-of-requires
     loop-holds
     parameter-values-requires
     add-i

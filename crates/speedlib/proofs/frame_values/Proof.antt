@@ -19,9 +19,6 @@ all-values-requires c κs =
 enum-told-2 : tie.Need-enum-told-2
 enum-told-2 c = search needs
 
-enum-told-3 : tie.Need-enum-told-3
-enum-told-3 c = search needs
-
 same-length : tie.Need-same-length
 same-length c = search needs
 
@@ -31,9 +28,6 @@ returns c = search needs
 returns-2 : tie.Need-returns-2
 returns-2 c = search needs
 
-returns-3 : tie.Need-returns-3
-returns-3 c = search needs
-
 pub frame-values-spec : {M : Type 1} → statement M
 frame-values-spec =
     tie.close
@@ -42,8 +36,6 @@ frame-values-spec =
     enum-told
     all-values-requires
     enum-told-2
-    enum-told-3
     same-length
     returns
-    returns-2
-    returns-3)
+    returns-2)

@@ -10,10 +10,10 @@ use Rattle.speedlib.proofs.parameter_values.Statement.{statement}
 use Rattle.speedlib.proofs.parameter_values.Tie as tie
 
 abbrev Inv-loop : tie.InvT-loop
-Inv-loop t words i before values₀ at count to₀ j₀ values to j = length values ≡ length values₀
+Inv-loop t o words i before values₀ at count to₀ j₀ values to j = length values ≡ length values₀
 
 abbrev μ-loop : tie.MeasureT-loop
-μ-loop t words i before values₀ at count to₀ j₀ values to j = count - j
+μ-loop t o words i before values₀ at count to₀ j₀ values to j = count - j
 
 parameter-at-requires : tie.Need-parameter-at-requires Inv-loop μ-loop
 parameter-at-requires c κs = search needs
@@ -33,8 +33,8 @@ value-in-requires c κs =
     let m : c .before .before .loop .j < sampleCountIn (now (c .before .before .before .before .before .before .args .t)) (c .before .before .before .before .before .before .args .i) = omega (arith, c .before .loop-test .taken, c .before .before .before .parameter-at .ensures .count-is) in
     (s .0, (s .1 .0, (s .1 .1 .0, (m, s .1 .1 .1))))
 
-mul-t12 : tie.Need-mul-t12 Inv-loop μ-loop
-mul-t12 c = search needs
+mul-t13 : tie.Need-mul-t13 Inv-loop μ-loop
+mul-t13 c = search needs
 
 slice-set-from-values : tie.Need-slice-set-from-values Inv-loop μ-loop
 slice-set-from-values c = search needs
@@ -68,7 +68,7 @@ parameter-values-spec =
     same-length
     returns
     value-in-requires
-    mul-t12
+    mul-t13
     slice-set-from-values
     add-to
     add-j

@@ -11,6 +11,7 @@ use Rattle.sample.specs.Component.{bitsOf}
 use Rattle.sample.specs.Joining.{partOf, join, width}
 use Rattle.sample.proofs.Sources.{join-lt}
 use Rattle.sample.proofs.Walks.{Joining, joining-starts, joining-raw, joining-width, joining-narrow, joining-step, joining-lt}
+use Rattle.model.specs.Forms.{sheetLimits}
 use Rattle.model.specs.Samples.{piece, pieces, widthOf}
 use Rattle.model.specs.Stored.{firstComponentIn, componentCountIn}
 use Rattle.model.specs.View.{componentAt, sampleAt, view}
@@ -35,14 +36,14 @@ record Passed (b y : List ℕ) (at j first count raw wide k : ℕ) : Type 0 wher
   counted : count ≡ componentCountIn b j
   inside : k ≤ count
   here : PiecesHere b j
-  narrow : width (all-pieces b j) ≤ 32
+  narrow : width (all-pieces b j) ≤ sheetLimits .width
   done : Joining (frameAt (view b) y at) (all-pieces b j) (left b j k) raw wide
 
 abbrev Inv-loop : tie.InvT-loop
-Inv-loop t stream p j begins first count raw₀ width₀ k₀ raw width k = Passed t stream p j first count raw width k
+Inv-loop t o stream p j begins first count raw₀ width₀ k₀ raw width k = Passed t stream p j first count raw width k
 
 abbrev μ-loop : tie.MeasureT-loop
-μ-loop t stream p j begins first count raw₀ width₀ k₀ raw width k = count - k
+μ-loop t o stream p j begins first count raw₀ width₀ k₀ raw width k = count - k
 
 module _ {b y : List ℕ} {at j first count raw wide k : ℕ} (v : Passed b y at j first count raw wide k) where
   -- the walk ends with nothing left
@@ -60,7 +61,7 @@ module _ {b y : List ℕ} {at j first count raw wide k : ℕ} (v : Passed b y at
     next : Joining (frameAt (view b) y at) (all-pieces b j) (stands b j k ∷ left b j (k + 1)) raw wide
     next = subst (λ (r : List Piece). Joining (frameAt (view b) y at) (all-pieces b j) r raw wide) (left-next b j k (omega (arith, v))) (v .done)
 
-    room : wide + bitsOf (stands b j k) ≤ 32
+    room : wide + bitsOf (stands b j k) ≤ sheetLimits .width
     room = omega (arith, v, joining-narrow _ _ _ _ next)
 
     module _ {r : Run} (e : RunOf b (first + k) r) where
@@ -76,16 +77,15 @@ module _ {b y : List ℕ} {at j first count raw wide k : ℕ} (v : Passed b y at
             ∙ ap (partOf (frameAt (view b) y at)) is
 
         -- the sum so far with the part just read
-        summed : raw + p * w < 2 ^ 32
-        summed = joining-lt _ _ _ _ next part ew 32 (v .narrow)
+        summed : raw + p * w < 2 ^ sheetLimits .width
+        summed = joining-lt _ _ _ _ next part ew (sheetLimits .width) (v .narrow)
 
         step : Joining (frameAt (view b) y at) (all-pieces b j) (left b j (k + 1)) (raw + p * w) (wide + r .bits)
         step = joining-step _ _ _ _ next part ew bits
 
 sample-at-requires : tie.Need-sample-at-requires Inv-loop μ-loop
 sample-at-requires c κs =
-    let s = c .before .before in
-    (s .pre .0 .laid .head .sized, s .pre .1 .1 .0 .here)
+    (c .before .before .pre .0 .opened, c .before .before .pre .1 .1 .0 .here)
 
 loop-holds : tie.Need-loop-holds Inv-loop μ-loop
 unfolding widthOf
@@ -98,9 +98,9 @@ loop-holds c =
       firsts = e .first-is;
       counted = e .count-is;
       inside = omega arith;
-      here = stored b (s .args .j) law;
-      narrow = law .narrow;
-      done = joining-starts _ _ (within b (frameAt (view b) (now (s .args .stream)) (s .args .p)) (s .args .j) (s .pre .0) law (frame-long (view b) (now (s .args .stream)) (s .args .p)));
+      here = stored b (s .args .j) (s .pre .0 .ruled .subframes .within) law;
+      narrow = omega (arith, law .narrow, s .pre .0 .ruled .subframes .within .width);
+      done = joining-starts _ _ (within b (frameAt (view b) (now (s .args .stream)) (s .args .p)) (s .args .j) (s .pre .0 .ruled) law (frame-long (view b) (now (s .args .stream)) (s .args .p)));
     }
 
 add-run-at : tie.Need-add-run-at Inv-loop μ-loop
@@ -111,12 +111,11 @@ run-at-requires c κs =
     let s = c .before .before .before .before .before in
     let v = c .before .loop .inv in
     let l = c .loop-test .taken in
-    (s .pre .0 .laid .head .sized, (omega (arith, v, l, s .pre .1 .1 .0), (s .pre .0 .subframes, (s .pre .1 .0, law v l))))
+    (s .pre .0 .opened, (omega (arith, v, l, s .pre .1 .1 .0), (s .pre .0 .ruled .subframes, (s .pre .1 .0, law v l))))
 
 add-bits-at : tie.Need-add-bits-at Inv-loop μ-loop
 add-bits-at c =
-    let s = c .before .before .before .before .before .before .before in
-    record { fits = omega (arith, c .before .run-at .ensures .small, s .pre .1 .1 .1 .1) }
+    record { fits = omega (arith, c .before .run-at .ensures .small, c .before .before .before .before .before .before .before .pre .1 .1 .1 .1) }
 
 bits-at-requires : tie.Need-bits-at-requires Inv-loop μ-loop
 bits-at-requires c κs = c .before .run-at .ensures .few

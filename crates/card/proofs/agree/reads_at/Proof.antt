@@ -19,8 +19,7 @@ parameter-at-requires c κs = search needs
 
 returns : tie.Need-returns
 returns c =
-    let s = c .before .before .before .before .before in
-    let l = s .pre .1 .1 .0 in
+    let l = c .before .before .before .before .before .pre .1 .1 .0 in
     sym (plain-reads _ _ _ l (ne-eqb _ _ (λ x. c .if1 .taken (ap (λ (y : ℕ). y / 2) (c .before .before .parameter-at .ensures .flags-is) ∙ x))))
 
 joined-in-requires : tie.Need-joined-in-requires
@@ -28,7 +27,7 @@ joined-in-requires c κs =
     let s = c .before .before .before .before .before in
     let t = now (s .args .t) in
     let i = s .args .i in
-    let m = listed-at t i 0 (s .pre .0) (s .pre .1 .1 .0) (first-one t i (s .pre .0) (s .pre .1 .1 .0)) in
+    let m = listed-at t i 0 (s .pre .0 .ruled) (s .pre .1 .1 .0) (first-one t i (s .pre .0 .ruled) (s .pre .1 .1 .0)) in
     let q : c .before .before .parameter-at .result .first ≡ firstSampleIn t i + 0 = omega (arith, c .before .before .parameter-at .ensures) in
     (s .pre .0, (s .pre .1 .0, (here-at t i 0 m q, (law-at t i 0 m q, s .pre .1 .1 .1))))
 
@@ -39,7 +38,7 @@ returns-2 c =
     let i = s .args .i in
     let l = s .pre .1 .1 .0 in
     let e = c .before .before .before .before .parameter-at .ensures in
-    let m = listed-at t i 0 (s .pre .0) l (first-one t i (s .pre .0) l) in
+    let m = listed-at t i 0 (s .pre .0 .ruled) l (first-one t i (s .pre .0 .ruled) l) in
     let q : c .before .before .before .before .parameter-at .result .first ≡ firstSampleIn t i + 0 = omega (arith, e) in
     let f = frameAt (view t) (now (s .args .stream)) (s .args .p) in
     let raw = joined-read t i 0 m q f (c .before .joined-in .result) (c .before .joined-in .ensures) .raw in

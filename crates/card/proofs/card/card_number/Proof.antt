@@ -1,5 +1,5 @@
--- One number for each case.
-use mathlib.Core.Path.{sym, ap}
+-- The reason's number.
+use mathlib.Core.Path.{sym, ap, _∙_}
 use Rattle.carding.specs.Answer.{cardedNumber}
 use borrow.Author.Needs.{needs}
 use Rattle.card.proofs.card.card_number.Statement.{statement}
@@ -8,20 +8,11 @@ use Rattle.card.proofs.card.card_number.Tie as tie
 enum-told : tie.Need-enum-told
 enum-told c = search needs
 
-enum-told-2 : tie.Need-enum-told-2
-enum-told-2 c = search needs
+enum-known-r : tie.Need-enum-known-r
+enum-known-r c = search needs
 
-enum-told-3 : tie.Need-enum-told-3
-enum-told-3 c = search needs
-
-enum-told-4 : tie.Need-enum-told-4
-enum-told-4 c = search needs
-
-enum-told-5 : tie.Need-enum-told-5
-enum-told-5 c = search needs
-
-enum-told-6 : tie.Need-enum-told-6
-enum-told-6 c = search needs
+reason-number-requires : tie.Need-reason-number-requires
+reason-number-requires c κs = search needs
 
 returns : tie.Need-returns
 unfolding cardedNumber
@@ -29,37 +20,8 @@ returns c = sym (ap cardedNumber (c .enum-told .given .1))
 
 returns-2 : tie.Need-returns-2
 unfolding cardedNumber
-returns-2 c = sym (ap cardedNumber (c .enum-told2 .given .1))
-
-returns-3 : tie.Need-returns-3
-unfolding cardedNumber
-returns-3 c = sym (ap cardedNumber (c .enum-told3 .given .1))
-
-returns-4 : tie.Need-returns-4
-unfolding cardedNumber
-returns-4 c = sym (ap cardedNumber (c .enum-told4 .given .1))
-
-returns-5 : tie.Need-returns-5
-unfolding cardedNumber
-returns-5 c = sym (ap cardedNumber (c .enum-told5 .given .1))
-
-returns-6 : tie.Need-returns-6
-unfolding cardedNumber
-returns-6 c = sym (ap cardedNumber (c .enum-told6 .given .1))
+returns-2 c = c .reason-number .ensures ∙ sym (ap cardedNumber (c .before .before .r .given .1))
 
 pub card-number-spec : {M : Type 1} → statement M
 card-number-spec =
-    tie.close
-    (tie.spec
-    enum-told
-    enum-told-2
-    enum-told-3
-    enum-told-4
-    enum-told-5
-    enum-told-6
-    returns
-    returns-2
-    returns-3
-    returns-4
-    returns-5
-    returns-6)
+    tie.close (tie.spec enum-told enum-known-r reason-number-requires returns returns-2)

@@ -18,28 +18,30 @@ mul-if1 c = search needs
 returns : tie.Need-returns
 returns c = refused-25 _ _ _ _ (c .before .position-from .ensures) (c .if1 .taken)
 
+bases-of-requires : tie.Need-bases-of-requires
+bases-of-requires c κs = (c .before .before .before .before .before .before .before .before .pre .0 .opened, c .before .before .before .before .before .before .before .before .pre .0 .ruled .subframes)
+
 frame-words-requires : tie.Need-frame-words-requires
 frame-words-requires c κs = search needs
 
 returns-2 : tie.Need-returns-2
-returns-2 c = refused-28 _ _ _ _ (c .before .before .before .position-from .ensures) (c .before .before .if1 .left) (c .before .frame-words .ensures) (c .if2 .taken)
+returns-2 c = refused-28 _ _ _ _ (c .before .before .before .before .before .position-from .ensures) (c .before .before .before .before .if1 .left) (c .before .frame-words .ensures) (c .if2 .taken)
 
 hand-out-requires : tie.Need-hand-out-requires
 hand-out-requires c κs =
-    let s = c .before .before .before .before .before .before .before .before .before .before .before .before in
-    (s .pre .0, (c .before .before .before .before .before .before .before .before .span-of .ensures .begins-are, (omega (arith, c .before .before .before .before .if1 .left, s .pre .1 .0), omega (arith, c .before .before .if2 .left, c .before .before .before .frame-words .ensures))))
+    (c .before .before .before .before .before .before .before .before .before .before .before .before .before .before .pre .0, (c .before .before .before .before .before .before .before .before .before .before .span-of .ensures .begins-are, (omega (arith, c .before .before .before .before .before .before .if1 .left, c .before .before .before .before .before .before .before .before .before .before .before .before .before .before .pre .1 .0), omega (arith, c .before .before .if2 .left, c .before .before .before .frame-words .ensures))))
 
-cast-t17 : tie.Need-cast-t17
-cast-t17 c = search needs
+cast-t23 : tie.Need-cast-t23
+cast-t23 c = search needs
 
-cast-t18 : tie.Need-cast-t18
-cast-t18 c = omega (arith, few-words _ (c .before .before .before .before .before .before .before .before .before .before .before .before .before .before .before .pre .0), c .before .before .before .before .before .before .frame-words .ensures)
+cast-t24 : tie.Need-cast-t24
+cast-t24 c = omega (arith, few-words _ (c .before .before .before .before .before .before .before .before .before .before .before .before .before .before .before .before .before .pre .0 .ruled), c .before .before .before .before .before .before .frame-words .ensures)
 
 same-length : tie.Need-same-length
 same-length c = search needs
 
 returns-3 : tie.Need-returns-3
-returns-3 c = handed-out _ _ _ _ (c .before .before .before .before .before .before .before .before .position-from .ensures) (c .before .before .before .before .before .before .before .if1 .left) (c .before .before .before .before .before .before .frame-words .ensures) (c .before .before .before .before .before .if2 .left) (c .before .before .hand-out .ensures)
+returns-3 c = handed-out _ _ _ _ (c .before .before .before .before .before .before .before .before .before .before .position-from .ensures) (c .before .before .before .before .before .before .before .before .before .if1 .left) (c .before .before .before .before .before .before .frame-words .ensures) (c .before .before .before .before .before .if2 .left) (c .before .before .hand-out .ensures)
 
 pub search-spec : {M : Type 1} → statement M
 search-spec =
@@ -49,10 +51,11 @@ search-spec =
     position-from-requires
     mul-if1
     returns
+    bases-of-requires
     frame-words-requires
     returns-2
     hand-out-requires
-    cast-t17
-    cast-t18
+    cast-t23
+    cast-t24
     same-length
     returns-3)

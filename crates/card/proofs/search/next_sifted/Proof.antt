@@ -13,8 +13,7 @@ element-copy-out-skip-unlike c = search needs
 
 add-skip-unlike : tie.Need-add-skip-unlike
 add-skip-unlike c =
-    let s = c .before .before .before in
-    record { fits = omega (arith, s .pre, s .pre .1 .near 0 (omega (arith, c .before .if1 .left))) }
+    record { fits = omega (arith, c .before .before .before .pre, c .before .before .before .pre .1 .near 0 (omega (arith, c .before .if1 .left))) }
 
 element-copy-out-skip-unlike-2 : tie.Need-element-copy-out-skip-unlike-2
 element-copy-out-skip-unlike-2 c = search needs
@@ -36,7 +35,6 @@ sub-result c = search needs
 
 returns-2 : tie.Need-returns-2
 returns-2 c =
-    let s = c .before .before .before .before .before .before .before in
     sifted-first _ _ _ (omega (arith, c .before .before .before .before .before .if1 .left)) (c .before .skip-unlike .ensures)
 
 pub next-sifted-spec : {M : Type 1} → statement M

@@ -1,29 +1,29 @@
 -- No position before p is the one that is looked for.
 use mathlib.Core.Path.{refl, sym, _∙_}
 use denote.Ref.{now}
-use Prim.Native.Nat.{_+_, _-_, _≤_}
+use Prim.Native.Nat.{_+_, _-_, _*_, _≤_}
 use native.Mathlib.Omega.{arith}
 use Rattle.model.specs.View.{view}
+use Rattle.carding.specs.Answer.{longestStream}
 use Rattle.card.proofs.Searching.{Walked, walk-starts, walk-more, walk-found, walk-ends, walk-sifted}
 use Rattle.card.proofs.search.position_from.Statement.{statement}
 use Rattle.card.proofs.search.position_from.Tie as tie
 
 abbrev Inv-loop : tie.InvT-loop
-Inv-loop t stream from begins bits ats widths wants count end p₀ p = Walked (view t) stream from bits end p × (p ≤ 4295491584)
+Inv-loop t o stream from begins bits ats widths wants count end p₀ p = Walked (view t) stream from bits end p × (p ≤ 4294967296 + 8 * longestStream)
 
 abbrev μ-loop : tie.MeasureT-loop
-μ-loop t stream from begins bits ats widths wants count end p₀ p = end + 1 - p
+μ-loop t o stream from begins bits ats widths wants count end p₀ p = end + 1 - p
 
 sieve-of-requires : tie.Need-sieve-of-requires Inv-loop μ-loop
-sieve-of-requires c κs = let s = c .before .before in (s .pre .0, s .pre .1 .0)
+sieve-of-requires c κs = (c .before .before .pre .0, c .before .before .pre .1 .0)
 
 mul-end : tie.Need-mul-end Inv-loop μ-loop
 mul-end c = record { fits = omega (arith, c .before .before .before .before .before .before .pre .1 .1 .1 .0) }
 
 next-sifted-requires : tie.Need-next-sifted-requires Inv-loop μ-loop
 next-sifted-requires c κs =
-    let s = c .before .before .before .before .before .before .before .before .before in
-    ((s .pre .1 .1 .1 .0, omega (arith, s .pre .1 .1 .1 .1)), c .before .before .before .before .before .before .sieve-of .ensures .shaped)
+    ((c .before .before .before .before .before .before .before .before .before .pre .1 .1 .1 .0, omega (arith, c .before .before .before .before .before .before .before .before .before .pre .1 .1 .1 .1)), c .before .before .before .before .before .before .sieve-of .ensures .shaped)
 
 loop-holds : tie.Need-loop-holds Inv-loop μ-loop
 loop-holds c =
@@ -49,18 +49,16 @@ add-next-sifted c = record { fits = omega (arith, c .before .before .before .bef
 
 next-sifted-requires-2 : tie.Need-next-sifted-requires-2 Inv-loop μ-loop
 next-sifted-requires-2 c κs =
-    let s = c .before .before .before .before .before .before .before .before .before .before .before .before .before .before .before .before .before .before .before .before in
-    ((s .pre .1 .1 .1 .0, omega (arith, s .pre .1 .1 .1 .0, c .before .before .before .before .before .before .before .before .loop-test .taken)), c .before .before .before .before .before .before .before .before .before .before .before .before .before .before .before .before .before .sieve-of .ensures .shaped)
+    ((c .before .before .before .before .before .before .before .before .before .before .before .before .before .before .before .before .before .before .before .before .pre .1 .1 .1 .0, omega (arith, c .before .before .before .before .before .before .before .before .before .before .before .before .before .before .before .before .before .before .before .before .pre .1 .1 .1 .0, c .before .before .before .before .before .before .before .before .loop-test .taken)), c .before .before .before .before .before .before .before .before .before .before .before .before .before .before .before .before .before .sieve-of .ensures .shaped)
 
 loop-less : tie.Need-loop-less Inv-loop μ-loop
 loop-less c = omega (arith, c .before .before .before .before .before .before .before .before .before .loop-test .taken, c .next-sifted2 .ensures .after)
 
 loop-again : tie.Need-loop-again Inv-loop μ-loop
 loop-again c =
-    let s = c .before .before .before .before .before .before .before .before .before .before .before .before .before .before .before .before .before .before .before .before .before in
     let n = c .next-sifted2 .ensures in (
       walk-sifted _ _ _ _ (walk-more _ _ _ (c .before .before .before .before .before .before .before .before .before .before .loop .inv .0) (sym (c .before .before .before .before .before .agrees-sifted .ensures) ∙ c .before .before .before .before .if1 .left)) (c .before .before .before .before .before .before .before .before .before .before .before .before .before .before .before .before .before .before .sieve-of .ensures) n,
-      omega (arith, s .pre .1 .1 .1 .0, c .before .before .before .before .before .before .before .before .before .loop-test .taken, n .near),
+      omega (arith, c .before .before .before .before .before .before .before .before .before .before .before .before .before .before .before .before .before .before .before .before .before .pre .1 .1 .1 .0, c .before .before .before .before .before .before .before .before .before .loop-test .taken, n .near),
     )
 
 add-result : tie.Need-add-result Inv-loop μ-loop

@@ -13,10 +13,10 @@ use Rattle.card.proofs.sieve.sift_more.Statement.{statement}
 use Rattle.card.proofs.sieve.sift_more.Tie as tie
 
 abbrev Inv-loop : tie.InvT-loop
-Inv-loop t i begins first count s₀ rest₀ k₀ s rest k = Sifting t (firstSampleIn t i) (rowsOf s) first count rest k
+Inv-loop t o i begins first count s₀ rest₀ k₀ s rest k = Sifting t (firstSampleIn t i) (rowsOf s) first count rest k
 
 abbrev μ-loop : tie.MeasureT-loop
-μ-loop t i begins first count s₀ rest₀ k₀ s rest k = count - k
+μ-loop t o i begins first count s₀ rest₀ k₀ s rest k = count - k
 
 parameter-at-requires : tie.Need-parameter-at-requires Inv-loop μ-loop
 parameter-at-requires c κs = search needs
@@ -30,10 +30,10 @@ sample-at-requires c κs =
     let b = now (s .args .t) in
     let i = s .args .i in
     let l = s .pre .1 .1 .0 in
-    let m = listed-at b i 0 (s .pre .0) l (first-one b i (s .pre .0) l) in
+    let m = listed-at b i 0 (s .pre .0 .ruled) l (first-one b i (s .pre .0 .ruled) l) in
     let e = c .before .before .parameter-at .ensures in
     let q : c .before .before .parameter-at .result .first ≡ firstSampleIn b i + 0 = omega (arith, e) in
-    (s .pre .0 .laid .head .sized, here-at b i 0 m q .here)
+    (s .pre .0 .opened, here-at b i 0 m q .here)
 
 loop-holds : tie.Need-loop-holds Inv-loop μ-loop
 loop-holds c =
@@ -41,7 +41,7 @@ loop-holds c =
     let b = now (s .args .t) in
     let i = s .args .i in
     let l = s .pre .1 .1 .0 in
-    let m = listed-at b i 0 (s .pre .0) l (first-one b i (s .pre .0) l) in
+    let m = listed-at b i 0 (s .pre .0 .ruled) l (first-one b i (s .pre .0 .ruled) l) in
     let e = c .before .before .before .parameter-at .ensures in
     let q : firstSampleIn b i ≡ firstSampleIn b i + 0 = omega arith in
     let is = c .sample-at .ensures in
@@ -52,7 +52,7 @@ loop-holds c =
       inside = omega arith;
       here = pieces-here b i 0 m q;
       sieve = s .pre .1 .1 .1;
-      left-is = λ y p h. value-joined b i (s .pre .0) l flag y p h ∙ sym (e .value-is);
+      left-is = λ y p h. value-joined b i (s .pre .0 .ruled) l flag y p h ∙ sym (e .value-is);
     }
 
 add-run-at : tie.Need-add-run-at Inv-loop μ-loop
@@ -64,12 +64,12 @@ run-at-requires c κs =
     let b = now (s .args .t) in
     let i = s .args .i in
     let l = s .pre .1 .1 .0 in
-    let m = listed-at b i 0 (s .pre .0) l (first-one b i (s .pre .0) l) in
+    let m = listed-at b i 0 (s .pre .0 .ruled) l (first-one b i (s .pre .0 .ruled) l) in
     let e = c .before .before .before .before .before .parameter-at .ensures in
     let v = c .before .loop .inv in
     let t = c .loop-test .taken in
     let q : firstSampleIn b i ≡ firstSampleIn b i + 0 = omega arith in
-    (s .pre .0 .laid .head .sized, (omega (arith, v, t, here-at b i 0 m q), (s .pre .0 .subframes, (s .pre .1 .0, law-here v t))))
+    (s .pre .0 .opened, (omega (arith, v, t, here-at b i 0 m q), (s .pre .0 .ruled .subframes, (s .pre .1 .0, law-here v t))))
 
 power-of-two-requires : tie.Need-power-of-two-requires Inv-loop μ-loop
 power-of-two-requires c κs = omega (arith, c .run-at .ensures .few)

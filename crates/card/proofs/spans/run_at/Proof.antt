@@ -15,46 +15,28 @@ component-at-requires : tie.Need-component-at-requires
 component-at-requires c κs = search needs
 
 sub-home : tie.Need-sub-home
-sub-home c =
-    let s = c .before .before .before in
-    let f = inside (now (s .args .t)) (s .args .k) (s .pre .1 .1 .0) (s .pre .1 .1 .1 .1) in
-    let e = c .before .component-at .ensures in
-    omega (arith, e, f)
+sub-home c = omega (arith, c .before .component-at .ensures, inside _ _ (c .before .before .before .pre .1 .1 .0) (c .before .before .before .pre .1 .1 .1 .1))
 
 subframe-at-requires : tie.Need-subframe-at-requires
 subframe-at-requires c κs =
     let s = c .before .before .before in
-    let f = inside (now (s .args .t)) (s .args .k) (s .pre .1 .1 .0) (s .pre .1 .1 .1 .1) in
-    let e = c .before .component-at .ensures in
-    (s .pre .0, omega (arith, e, f))
+    (s .pre .0, omega (arith, c .before .component-at .ensures, inside _ _ (s .pre .1 .1 .0) (s .pre .1 .1 .1 .1)))
 
 mul-bit-of : tie.Need-mul-bit-of
 mul-bit-of c =
     let s = c .before .before .before .before in
-    let f = inside (now (s .args .t)) (s .args .k) (s .pre .1 .1 .0) (s .pre .1 .1 .1 .1) in
-    let e = c .before .before .component-at .ensures in
-    omega (arith, e, f, s .pre .0)
+    omega (arith, c .before .before .component-at .ensures, inside _ _ (s .pre .1 .1 .0) (s .pre .1 .1 .1 .1), s .pre .0 .sized .fewSubframes)
 
 element-copy-out-bit-of : tie.Need-element-copy-out-bit-of
 element-copy-out-bit-of c =
     let s = c .before .before .before .before in
-    let f = inside (now (s .args .t)) (s .args .k) (s .pre .1 .1 .0) (s .pre .1 .1 .1 .1) in
-    let e = c .before .before .component-at .ensures in
-    omega (arith, e, f, s .pre .0)
+    omega (arith, c .before .before .component-at .ensures, inside _ _ (s .pre .1 .1 .0) (s .pre .1 .1 .1 .1), s .pre .0 .sized .fewSubframes)
 
 sub-bit-of : tie.Need-sub-bit-of
-sub-bit-of c =
-    let s = c .before .before .before .before .before .before in
-    let f = inside (now (s .args .t)) (s .args .k) (s .pre .1 .1 .0) (s .pre .1 .1 .1 .1) in
-    let e = c .before .before .before .before .component-at .ensures in
-    omega (arith, e, f)
+sub-bit-of c = omega (arith, c .before .before .before .before .component-at .ensures, inside _ _ (c .before .before .before .before .before .before .pre .1 .1 .0) (c .before .before .before .before .before .before .pre .1 .1 .1 .1))
 
 sub-bit-of-2 : tie.Need-sub-bit-of-2
-sub-bit-of-2 c =
-    let s = c .before .before .before .before .before .before .before in
-    let f = inside (now (s .args .t)) (s .args .k) (s .pre .1 .1 .0) (s .pre .1 .1 .1 .1) in
-    let e = c .before .before .before .before .before .component-at .ensures in
-    omega (arith, e, f)
+sub-bit-of-2 c = omega (arith, c .before .before .before .before .before .component-at .ensures, inside _ _ (c .before .before .before .before .before .before .before .pre .1 .1 .0) (c .before .before .before .before .before .before .before .pre .1 .1 .1 .1))
 
 bit-of-requires : tie.Need-bit-of-requires
 bit-of-requires c κs =
@@ -66,26 +48,14 @@ bit-of-requires c κs =
     let w = narrow-there (now (s .args .t)) home l (s .pre .1 .1 .0) in
     (s .pre .1 .1 .1 .0 .small home l, omega (arith, e, f), omega (arith, c .before .before .before .subframe-at .ensures, w), omega (arith, e, f))
 
-add-t8 : tie.Need-add-t8
-add-t8 c =
-    let s = c .before .before .before .before .before .before .before .before .before in
-    let f = inside (now (s .args .t)) (s .args .k) (s .pre .1 .1 .0) (s .pre .1 .1 .1 .1) in
-    let e = c .before .before .before .before .before .before .before .component-at .ensures in
-    omega (arith, e, f)
+add-bits : tie.Need-add-bits
+add-bits c = omega (arith, c .before .before .before .before .before .before .before .component-at .ensures, inside _ _ (c .before .before .before .before .before .before .before .before .before .pre .1 .1 .0) (c .before .before .before .before .before .before .before .before .before .pre .1 .1 .1 .1))
 
-sub-t13 : tie.Need-sub-t13
-sub-t13 c =
-    let s = c .before .before .before .before .before .before .before .before .before .before in
-    let f = inside (now (s .args .t)) (s .args .k) (s .pre .1 .1 .0) (s .pre .1 .1 .1 .1) in
-    let e = c .before .before .before .before .before .before .before .before .component-at .ensures in
-    omega (arith, e, f)
+sub-bits : tie.Need-sub-bits
+sub-bits c = omega (arith, c .before .before .before .before .before .before .before .before .component-at .ensures, inside _ _ (c .before .before .before .before .before .before .before .before .before .before .pre .1 .1 .0) (c .before .before .before .before .before .before .before .before .before .before .pre .1 .1 .1 .1))
 
-cast-t14 : tie.Need-cast-t14
-cast-t14 c =
-    let s = c .before .before .before .before .before .before .before .before .before .before in
-    let f = inside (now (s .args .t)) (s .args .k) (s .pre .1 .1 .0) (s .pre .1 .1 .1 .1) in
-    let e = c .before .before .before .before .before .before .before .before .component-at .ensures in
-    omega (arith, e, f)
+cast-bits : tie.Need-cast-bits
+cast-bits c = omega (arith, c .before .before .before .before .before .before .before .before .component-at .ensures, inside _ _ (c .before .before .before .before .before .before .before .before .before .before .pre .1 .1 .0) (c .before .before .before .before .before .before .before .before .before .before .pre .1 .1 .1 .1))
 
 returns : tie.Need-returns
 unfolding piece componentAt
@@ -120,7 +90,7 @@ run-at-spec =
     sub-bit-of
     sub-bit-of-2
     bit-of-requires
-    add-t8
-    sub-t13
-    cast-t14
+    add-bits
+    sub-bits
+    cast-bits
     returns)

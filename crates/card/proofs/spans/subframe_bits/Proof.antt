@@ -4,19 +4,15 @@ use native.Mathlib.Omega.{arith}
 use Rattle.card.proofs.spans.subframe_bits.Statement.{statement}
 use Rattle.card.proofs.spans.subframe_bits.Tie as tie
 
--- src/place.rt:31:15
 mul-result : tie.Need-mul-result
 mul-result c = record { fits = omega (arith, mul-le-mul (c .pre .1) (c .pre .2)) }
 
--- src/place.rt:31:5
 add-result : tie.Need-add-result
 add-result c = record { fits = omega (arith, mul-le-mul (c .pre .1) (c .pre .2)) }
 
--- src/place.rt:31:5
 add-result-2 : tie.Need-add-result-2
 add-result-2 c = record { fits = omega (arith, mul-le-mul (c .pre .1) (c .pre .2)) }
 
--- src/place.rt:27:1
 returns : tie.Need-returns
 returns c = (refl, omega (arith, mul-le-mul (c .pre .1) (c .pre .2)))
 

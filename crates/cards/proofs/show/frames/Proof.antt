@@ -4,49 +4,55 @@ use Prim.Native.Nat.{_+_, _*_, _-_, _≤_}
 use native.Mathlib.Omega.{arith}
 use lib.ListN.{length}
 use lib.Seq.{length-take-le}
-use Rattle.table.proofs.Accepting.{accepted-ruled}
+use Rattle.carding.proofs.CardCases.{bits-there}
 use Rattle.carding.proofs.Next.{found-stands}
 use borrow.Author.Needs.{needs}
 use Rattle.cards.proofs.show.frames.Statement.{statement}
 use Rattle.cards.proofs.show.frames.Tie as tie
 
 abbrev Inv-loop : tie.InvT-loop
-Inv-loop t stream first words₀ before bits count position₀ words position = (position + bits ≤ 8 * length stream) × (length words ≡ length words₀)
+Inv-loop t o stream first words₀ before count bits position₀ words position = (position + bits ≤ 8 * length stream) × (length words ≡ length words₀)
 
 abbrev μ-loop : tie.MeasureT-loop
-μ-loop t stream first words₀ before bits count position₀ words position = 8 * length stream - position
+μ-loop t o stream first words₀ before count bits position₀ words position = 8 * length stream - position
 
 bases-of-requires : tie.Need-bases-of-requires Inv-loop μ-loop
-bases-of-requires c κs = let r = accepted-ruled _ (c .before .before .before .pre .0 .0) in (r .laid .head .sized, r .subframes)
-
-frame-bits-requires : tie.Need-frame-bits-requires Inv-loop μ-loop
-frame-bits-requires c κs = search needs
+bases-of-requires c κs = let r = c .before .before .before .pre .0 .0 in (r .opened, r .ruled .subframes)
 
 frame-words-requires : tie.Need-frame-words-requires Inv-loop μ-loop
-frame-words-requires c κs = accepted-ruled _ (c .before .before .before .before .before .pre .0 .0)
+frame-words-requires c κs = (c .before .before .before .before .before .pre .0 .0, c .before .bases-of .ensures)
+
+span-of-requires : tie.Need-span-of-requires Inv-loop μ-loop
+span-of-requires c κs = let r = c .before .before .before .before .before .before .pre .0 .0 in (r .opened, r .ruled .subframes)
+
+cast-bits : tie.Need-cast-bits Inv-loop μ-loop
+cast-bits c = search needs
 
 loop-holds : tie.Need-loop-holds Inv-loop μ-loop
-loop-holds c = (omega (arith, c .before .frame-bits .ensures, c .before .before .before .before .before .before .pre .1 .0), search needs)
+loop-holds c = (omega (arith, c .before .span-of .ensures .bits-are, c .before .before .before .before .before .before .before .before .pre .1 .0), search needs)
 
 slice-reshare-prefix-rows : tie.Need-slice-reshare-prefix-rows Inv-loop μ-loop
-slice-reshare-prefix-rows c = omega (arith, c .before .frame-words .ensures, c .loop .inv .1, c .before .before .before .before .before .before .before .pre .1 .1)
+slice-reshare-prefix-rows c = omega (arith, c .before .before .before .frame-words .ensures, c .loop .inv .1, c .before .before .before .before .before .before .before .before .before .pre .1 .1)
 
 slice-aggregate-rows : tie.Need-slice-aggregate-rows Inv-loop μ-loop
-slice-aggregate-rows c = sym (length-take-le _ _ (omega (arith, c .before .before .frame-words .ensures, c .before .loop .inv .1, c .before .before .before .before .before .before .before .before .pre .1 .1)))
+slice-aggregate-rows c = sym (length-take-le _ _ (omega (arith, c .before .before .before .before .frame-words .ensures, c .before .loop .inv .1, c .before .before .before .before .before .before .before .before .before .before .pre .1 .1)))
 
 rows-requires : tie.Need-rows-requires Inv-loop μ-loop
 rows-requires c κs =
-    let a = c .before .before .before .before .before .before .before .before .before in
-    (accepted-ruled _ (a .pre .0 .0), (c .before .before .before .before .before .bases-of .ensures, length-take-le _ _ (omega (arith, c .before .before .before .frame-words .ensures, c .before .before .loop .inv .1, a .pre .1 .1)) ∙ c .before .before .before .frame-words .ensures))
+    let s = c .before .before .before .before .before .before .before .before .before .before .before .pre in
+    (s .0 .0, (c .before .before .before .before .before .before .before .bases-of .ensures, length-take-le _ _ (omega (arith, c .before .before .before .before .before .frame-words .ensures, c .before .before .loop .inv .1, s .1 .1)) ∙ c .before .before .before .before .before .frame-words .ensures))
 
 add-card-from : tie.Need-add-card-from Inv-loop μ-loop
-add-card-from c = omega (arith, c .before .before .before .loop .inv .0, c .before .before .before .before .before .before .before .before .before .before .pre .0 .1)
+add-card-from c = omega (arith, c .before .before .before .loop .inv .0, c .before .before .before .before .before .before .before .before .before .before .before .before .pre .0 .1)
 
 card-from-requires : tie.Need-card-from-requires Inv-loop μ-loop
 card-from-requires c κs = search needs
 
 enum-known-found : tie.Need-enum-known-found Inv-loop μ-loop
 enum-known-found c = search needs
+
+enum-told : tie.Need-enum-told Inv-loop μ-loop
+enum-told c = search needs
 
 same-length : tie.Need-same-length Inv-loop μ-loop
 same-length c = search needs
@@ -57,12 +63,12 @@ returns c = search needs
 loop-less : tie.Need-loop-less Inv-loop μ-loop
 loop-less c =
     let w = found-stands _ _ _ _ _ _ (sym (c .before .before .before .before .before .card-from .ensures .0) ∙ c .before .found .given .1) in
-    omega (arith, w .after, w .whole, w .some, c .before .before .before .before .before .before .before .before .before .before .before .before .frame-bits .ensures)
+    omega (arith, w .after, w .whole, w .some, bits-there _ (w .accepted), c .before .before .before .before .before .before .before .before .before .before .before .before .span-of .ensures .bits-are)
 
 loop-again : tie.Need-loop-again Inv-loop μ-loop
 loop-again c =
     let w = found-stands _ _ _ _ _ _ (sym (c .before .before .before .before .before .card-from .ensures .0) ∙ c .before .found .given .1) in
-    (omega (arith, w .whole, c .before .before .before .before .before .before .before .before .before .before .before .before .frame-bits .ensures), search needs)
+    (omega (arith, w .whole, bits-there _ (w .accepted), c .before .before .before .before .before .before .before .before .before .before .before .before .span-of .ensures .bits-are), search needs)
 
 pub frames-spec : {M : Type 1} → statement M
 frames-spec =
@@ -71,8 +77,9 @@ frames-spec =
     Inv-loop
     μ-loop
     bases-of-requires
-    frame-bits-requires
     frame-words-requires
+    span-of-requires
+    cast-bits
     loop-holds
     slice-reshare-prefix-rows
     slice-aggregate-rows
@@ -80,6 +87,7 @@ frames-spec =
     add-card-from
     card-from-requires
     enum-known-found
+    enum-told
     same-length
     returns
     loop-less

@@ -19,12 +19,6 @@ enum-told c = search needs
 enum-told-2 : tie.Need-enum-told-2
 enum-told-2 c = search needs
 
-enum-told-3 : tie.Need-enum-told-3
-enum-told-3 c = search needs
-
-enum-told-4 : tie.Need-enum-told-4
-enum-told-4 c = search needs
-
 returns : tie.Need-returns
 unfolding comparedOut differing
 returns c = rw (c .before .before .before .compare-number .ensures, c .before .compared .given .1)
@@ -37,27 +31,7 @@ returns-3 : tie.Need-returns-3
 unfolding comparedOut differing
 returns-3 c = rw (c .before .before .compare-number .ensures, c .enum-told2 .given .1)
 
-returns-4 : tie.Need-returns-4
-unfolding comparedOut differing
-returns-4 c = rw (c .before .before .compare-number .ensures, c .enum-told3 .given .1)
-
-returns-5 : tie.Need-returns-5
-unfolding comparedOut differing
-returns-5 c = rw (c .before .before .compare-number .ensures, c .enum-told4 .given .1)
-
 pub compared-out-spec : {M : Type 1} → statement M
 compared-out-spec =
     tie.close
-    (tie.spec
-    compare-number-requires
-    enum-known-compared
-    cast-t5
-    enum-told
-    enum-told-2
-    enum-told-3
-    enum-told-4
-    returns
-    returns-2
-    returns-3
-    returns-4
-    returns-5)
+    (tie.spec compare-number-requires enum-known-compared cast-t5 enum-told enum-told-2 returns returns-2 returns-3)

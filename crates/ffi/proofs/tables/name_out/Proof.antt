@@ -1,7 +1,7 @@
 -- The entry of the asked parameter says where its name stands, and how long it is.
+use mathlib.Core.Path.{_∙_}
 use native.Mathlib.Omega.{arith}
-use Rattle.model.proofs.Laying.{accepted-laid}
-use Rattle.ffi.proofs.Names.{named-out, no-table-out, no-parameter-out}
+use Rattle.ffi.proofs.Names.{named-out, no-name-out}
 use borrow.Author.Needs.{needs}
 use Rattle.ffi.proofs.tables.name_out.Statement.{statement}
 use Rattle.ffi.proofs.tables.name_out.Tie as tie
@@ -10,35 +10,26 @@ enum-known-asked : tie.Need-enum-known-asked
 enum-known-asked c = search needs
 
 parameter-at-requires : tie.Need-parameter-at-requires
-parameter-at-requires c κs =
-    let h = c .before .before .before .before .pre .each _ (c .before .asked .given .1) in
-    (accepted-laid _ (h .accepted) .head .sized, h .here)
+parameter-at-requires c κs = (c .before .before .before .before .pre .0, c .before .before .before .before .pre .1 .each _ (c .before .asked .given .1) .here)
 
-text-part-requires : tie.Need-text-part-requires
-text-part-requires c κs =
-    let h = c .before .before .before .before .before .pre .each _ (c .before .before .asked .given .1) in
-    accepted-laid _ (h .accepted) .head .sized
+add-t8 : tie.Need-add-t8
+add-t8 c = let l = c .before .before .before .before .before .before .before .pre .0 .starts .text-below in let m = c .before .before .parameter-at .ensures in search needs
 
-add-t7 : tie.Need-add-t7
-add-t7 c = search needs
+enum-known-asked-2 : tie.Need-enum-known-asked-2
+enum-known-asked-2 c = search needs
 
-enum-told : tie.Need-enum-told
-enum-told c = search needs
-
-enum-told-2 : tie.Need-enum-told-2
-enum-told-2 c = search needs
+no-name-requires : tie.Need-no-name-requires
+no-name-requires c κs = search needs
 
 returns : tie.Need-returns
 returns c =
     let e = c .before .before .before .before .asked .given .1 in
-    let h = c .before .before .before .before .before .before .before .pre .each _ e in
-    named-out _ _ _ _ _ e h (omega arith) (omega arith)
+    let t = c .before .before .before .before .before .before .before .pre .0 .starts .text-is in
+    let p = c .before .before .parameter-at .ensures in
+    named-out _ _ _ _ _ e (c .before .before .before .before .before .before .before .pre .1 .each _ e) (omega (arith, t, p .start-is)) (p .name-is)
 
 returns-2 : tie.Need-returns-2
-returns-2 c = no-table-out _ _ (c .enum-told .given .1)
-
-returns-3 : tie.Need-returns-3
-returns-3 c = no-parameter-out _ _ (c .enum-told2 .given .1)
+returns-2 c = c .no-name .ensures ∙ no-name-out _ _ _ (c .before .before .asked2 .given .1)
 
 pub name-out-spec : {M : Type 1} → statement M
 name-out-spec =
@@ -46,10 +37,8 @@ name-out-spec =
     (tie.spec
     enum-known-asked
     parameter-at-requires
-    text-part-requires
-    add-t7
-    enum-told
-    enum-told-2
+    add-t8
+    enum-known-asked-2
+    no-name-requires
     returns
-    returns-2
-    returns-3)
+    returns-2)

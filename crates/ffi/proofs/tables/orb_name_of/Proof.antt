@@ -1,26 +1,53 @@
--- What is asked for, as the struct.
+-- What is asked for of an opened table, as the struct.
 use mathlib.Core.Path.{sym, ap, subst, _∙_}
 use denote.Ref.{now}
 use Rattle.table.specs.Answers.{AskedHere}
 use Rattle.table.specs.declared.naming.Asked.{Asked}
-use Rattle.table.proofs.Asking.{number-asked}
+use Rattle.table.proofs.Accepting.{opened-accepted, opened-not}
+use Rattle.table.proofs.Asking.{number-asked, number-table, number-no-table}
 use Rattle.ffi.specs.Structs.{nameOut}
+use Rattle.ffi.proofs.Names.{no-name-out}
 use borrow.Author.Needs.{needs}
 use Rattle.ffi.proofs.tables.orb_name_of.Statement.{statement}
 use Rattle.ffi.proofs.tables.orb_name_of.Tie as tie
 
-ask-number-requires : tie.Need-ask-number-requires
-ask-number-requires c κs = search needs
+opening-requires : tie.Need-opening-requires
+opening-requires c κs = search needs
+
+enum-known-opened : tie.Need-enum-known-opened
+enum-known-opened c = search needs
+
+numbered-requires : tie.Need-numbered-requires
+numbered-requires c κs = search needs
 
 name-out-requires : tie.Need-name-out-requires
 name-out-requires c κs =
-    let a = c .before .before .args in
-    subst (λ (x : Asked). AskedHere (now (a .table)) x) (sym (c .ask-number .ensures)) (number-asked (now (a .table)) (a .parameter))
+    let e = c .before .before .opened .given .1 in
+    (c .before .before .before .before .opening .ensures .opened _ e, subst (λ (x : Asked). AskedHere (now (c .before .before .before .before .before .before .args .table)) x) (sym (c .numbered .ensures ∙ number-table _ _ (opened-accepted (c .before .before .before .before .opening .ensures) e) _ (c .before .before .before .before .opening .ensures .opened _ e .counts .parameters-is))) (number-asked (now (c .before .before .before .before .before .before .args .table)) (c .before .before .before .before .before .before .args .parameter)))
+
+enum-told : tie.Need-enum-told
+enum-told c = search needs
+
+no-name-requires : tie.Need-no-name-requires
+no-name-requires c κs = search needs
 
 returns : tie.Need-returns
 returns c =
-    let a = c .before .before .before .args in
-    c .name-out .ensures ∙ ap (nameOut (now (a .table))) (c .before .ask-number .ensures)
+    let e = c .before .before .before .opened .given .1 in
+    c .name-out .ensures ∙ ap (nameOut (now (c .before .before .before .before .before .before .before .args .table))) (c .before .numbered .ensures ∙ number-table _ _ (opened-accepted (c .before .before .before .before .before .opening .ensures) e) _ (c .before .before .before .before .before .opening .ensures .opened _ e .counts .parameters-is))
+
+returns-2 : tie.Need-returns-2
+returns-2 c = c .no-name .ensures ∙ no-name-out _ _ _ (number-no-table _ _ (opened-not (c .before .before .before .opening .ensures) (c .before .enum-told .given .1)))
 
 pub orb-name-of-spec : {M : Type 1} → statement M
-orb-name-of-spec = tie.close (tie.spec ask-number-requires name-out-requires returns)
+orb-name-of-spec =
+    tie.close
+    (tie.spec
+    opening-requires
+    enum-known-opened
+    numbered-requires
+    name-out-requires
+    enum-told
+    no-name-requires
+    returns
+    returns-2)

@@ -25,8 +25,8 @@ returns c = rw (c .before .before .enum-told .given .1, ← (c .before .unlike-n
 returns-2 : tie.Need-returns-2
 returns-2 c =
     let a = c .before .before .before .before .args in
-    let column : ℕ → List (List ℕ) = λ n. textsIn (now (a .sheet)) n (a .p) (now (a .texts)) in
-    form-arm (λ f. namesIn f (column 0) (column 1026) (column 2052) (now (a .line))) Passes (other-forms (NameLine ∷ [])) refl (a .form) (c .match .keys2)
+    let column : ℕ → List (List ℕ) = λ k. textsIn (now (a .sheet)) k (a .p) (now (a .texts)) in
+    form-arm (λ f. namesIn f (column 0) (column 2) (column 4) (now (a .line))) Passes (other-forms (NameLine ∷ [])) refl (a .form) (c .match .keys2)
 
 pub names-judged-spec : {M : Type 1} → statement M
 names-judged-spec =

@@ -3,18 +3,16 @@ use mathlib.Core.Path.{_≡_}
 use Prim.Native.Nat.{_-_}
 use native.Mathlib.Omega.{arith}
 use lib.ListN.{length}
+use Rattle.listed.specs.Listing.{rowsMost}
 use borrow.Author.Needs.{needs}
 use Rattle.listing.proofs.show.rows.Statement.{statement}
 use Rattle.listing.proofs.show.rows.Tie as tie
 
 abbrev Inv-loop : tie.InvT-loop
-Inv-loop t words before out₀ counts i₀ out i = 9600 ≡ length out
+Inv-loop t o words before out₀ parameters i₀ out i = rowsMost ≡ length out
 
 abbrev μ-loop : tie.MeasureT-loop
-μ-loop t words before out₀ counts i₀ out i = counts .parameters - i
-
-counts-of-requires : tie.Need-counts-of-requires Inv-loop μ-loop
-counts-of-requires c κs = search needs
+μ-loop t o words before out₀ parameters i₀ out i = parameters - i
 
 loop-holds : tie.Need-loop-holds Inv-loop μ-loop
 loop-holds c = search needs
@@ -23,7 +21,7 @@ slice-aggregate-put-parameter : tie.Need-slice-aggregate-put-parameter Inv-loop 
 slice-aggregate-put-parameter c = search needs
 
 put-parameter-requires : tie.Need-put-parameter-requires Inv-loop μ-loop
-put-parameter-requires c κs = let s = c .before .before .before .before .before .before .before .pre in (s .0, (s .1 .0, (omega (arith, c .before .if1 .taken, c .before .before .before .before .counts-of .ensures), (s .1 .1, omega (arith, c .before .before .before .loop .inv)))))
+put-parameter-requires c κs = let s = c .before .before .before .before .before .pre in (s .0, (s .1 .0, (omega (arith, c .before .loop-test .taken, s .0 .opened .counts .parameters-is), (s .1 .1, omega (arith, c .before .before .loop .inv)))))
 
 array-share-prefix-out : tie.Need-array-share-prefix-out Inv-loop μ-loop
 array-share-prefix-out c = search needs
@@ -52,7 +50,6 @@ rows-spec =
     (tie.spec
     Inv-loop
     μ-loop
-    counts-of-requires
     loop-holds
     slice-aggregate-put-parameter
     put-parameter-requires

@@ -1,17 +1,8 @@
+-- Each line at the end of its part; most lines write nothing.
+use native.Mathlib.Omega.{arith}
 use borrow.Author.Needs.{needs}
 use Rattle.maker.proofs.emit.emit.Statement.{statement}
 use Rattle.maker.proofs.emit.emit.Tie as tie
-use Rattle.maker.proofs.emit.emit.Reads as reads
-use Rattle.maker.proofs.emit.emit.Lts as lts
-use Rattle.lineforms.proofs.said.pair_in.Reads as pair-in-reads
-use Rattle.lineforms.proofs.said.part_in.Reads as part-in-reads
-use Rattle.lineforms.proofs.said.time_in.Reads as time-in-reads
-use Rattle.maker.proofs.copies.put_copies.Reads as put-copies-reads
-use Rattle.maker.proofs.emit.described.Reads as described-reads
-use Rattle.maker.proofs.emit.put_names.Reads as put-names-reads
-use Rattle.maker.proofs.entries.put_component.Reads as put-component-reads
-use Rattle.maker.proofs.entries.put_parameter.Reads as put-parameter-reads
-use Rattle.maker.proofs.entries.put_sample.Reads as put-sample-reads
 
 enum-told : tie.Need-enum-told
 enum-told c = search needs
@@ -31,17 +22,11 @@ enum-told-5 c = search needs
 enum-told-6 : tie.Need-enum-told-6
 enum-told-6 c = search needs
 
-mul-put-copies : tie.Need-mul-put-copies
-mul-put-copies c = search needs
-
-add-put-copies : tie.Need-add-put-copies
-add-put-copies c = search needs
-
 pair-in-requires : tie.Need-pair-in-requires
 pair-in-requires c κs = search needs
 
 put-copies-requires : tie.Need-put-copies-requires
-put-copies-requires c κs = rw (c .before .before .before .enum-told6 .given .1) at (c .before .before .before .before .before .before .before .pre .2)
+put-copies-requires c κs = rw (c .before .before .enum-told6 .given .1) at (c .before .before .before .before .before .before .pre .1)
 
 enum-told-7 : tie.Need-enum-told-7
 enum-told-7 c = search needs
@@ -53,49 +38,31 @@ enum-told-9 : tie.Need-enum-told-9
 enum-told-9 c = search needs
 
 add-put-names : tie.Need-add-put-names
-add-put-names c = search needs
+add-put-names c = let r = rw (c .before .before .before .enum-told9 .given .1) at (c .before .before .before .before .before .before .before .pre .1) in omega (arith, r)
 
 put-names-requires : tie.Need-put-names-requires
-put-names-requires c κs = rw (c .before .before .before .enum-told9 .given .1) at (c .before .before .before .before .before .before .before .pre .2)
+put-names-requires c κs = rw (c .before .before .before .enum-told9 .given .1) at (c .before .before .before .before .before .before .before .pre .1)
 
 enum-told-10 : tie.Need-enum-told-10
 enum-told-10 c = search needs
-
-mul-put-component : tie.Need-mul-put-component
-mul-put-component c = search needs
-
-add-put-component : tie.Need-add-put-component
-add-put-component c = search needs
 
 part-in-requires : tie.Need-part-in-requires
 part-in-requires c κs = search needs
 
 put-component-requires : tie.Need-put-component-requires
-put-component-requires c κs = rw (c .before .before .before .before .enum-told10 .given .1) at (c .before .before .before .before .before .before .before .before .pre .2)
+put-component-requires c κs = rw (c .before .before .enum-told10 .given .1) at (c .before .before .before .before .before .before .pre .1)
 
 enum-told-11 : tie.Need-enum-told-11
 enum-told-11 c = search needs
-
-mul-put-component-2 : tie.Need-mul-put-component-2
-mul-put-component-2 c = search needs
-
-add-put-component-2 : tie.Need-add-put-component-2
-add-put-component-2 c = search needs
 
 part-in-requires-2 : tie.Need-part-in-requires-2
 part-in-requires-2 c κs = search needs
 
 put-component-requires-2 : tie.Need-put-component-requires-2
-put-component-requires-2 c κs = rw (c .before .before .before .before .enum-told11 .given .1) at (c .before .before .before .before .before .before .before .before .pre .2)
+put-component-requires-2 c κs = rw (c .before .before .enum-told11 .given .1) at (c .before .before .before .before .before .before .pre .1)
 
 enum-told-12 : tie.Need-enum-told-12
 enum-told-12 c = search needs
-
-mul-put-sample : tie.Need-mul-put-sample
-mul-put-sample c = search needs
-
-add-put-sample : tie.Need-add-put-sample
-add-put-sample c = search needs
 
 time-in-requires : tie.Need-time-in-requires
 time-in-requires c κs = search needs
@@ -104,7 +71,7 @@ sub-put-sample : tie.Need-sub-put-sample
 sub-put-sample c = search needs
 
 put-sample-requires : tie.Need-put-sample-requires
-put-sample-requires c κs = rw (c .before .before .before .before .before .enum-told12 .given .1) at (c .before .before .before .before .before .before .before .before .before .pre .2)
+put-sample-requires c κs = rw (c .before .before .before .enum-told12 .given .1) at (c .before .before .before .before .before .before .before .pre .1)
 
 enum-told-13 : tie.Need-enum-told-13
 enum-told-13 c = search needs
@@ -127,17 +94,11 @@ enum-told-18 c = search needs
 enum-told-19 : tie.Need-enum-told-19
 enum-told-19 c = search needs
 
-mul-put-parameter : tie.Need-mul-put-parameter
-mul-put-parameter c = search needs
-
-add-put-parameter : tie.Need-add-put-parameter
-add-put-parameter c = search needs
-
 described-requires : tie.Need-described-requires
 described-requires c κs = search needs
 
 put-parameter-requires : tie.Need-put-parameter-requires
-put-parameter-requires c κs = rw (c .before .before .before .before .enum-told19 .given .1) at (c .before .before .before .before .before .before .before .before .pre .2)
+put-parameter-requires c κs = rw (c .before .before .enum-told19 .given .1) at (c .before .before .before .before .before .before .pre .1)
 
 returns : tie.Need-returns
 returns c = simp (c .enum-told .given .1)
@@ -158,7 +119,7 @@ same-length : tie.Need-same-length
 same-length c = search needs
 
 returns-6 : tie.Need-returns-6
-returns-6 c = simp (c .before .before .put-copies .ensures, c .before .before .before .pair-in .ensures, c .before .before .before .before .before .before .enum-told6 .given .1)
+returns-6 c = simp (c .before .before .put-copies .ensures, c .before .before .before .pair-in .ensures, c .before .before .before .before .before .enum-told6 .given .1)
 
 returns-7 : tie.Need-returns-7
 returns-7 c = simp (c .enum-told7 .given .1)
@@ -176,19 +137,19 @@ same-length-3 : tie.Need-same-length-3
 same-length-3 c = search needs
 
 returns-10 : tie.Need-returns-10
-returns-10 c = simp (c .before .before .put-component .ensures, c .before .before .before .part-in .ensures .0, c .before .before .before .before .before .before .before .enum-told10 .given .1)
+returns-10 c = simp (c .before .before .put-component .ensures, c .before .before .before .part-in .ensures .0, c .before .before .before .before .before .enum-told10 .given .1)
 
 same-length-4 : tie.Need-same-length-4
 same-length-4 c = search needs
 
 returns-11 : tie.Need-returns-11
-returns-11 c = simp (c .before .before .put-component2 .ensures, c .before .before .before .part-in2 .ensures .0, c .before .before .before .before .before .before .before .enum-told11 .given .1)
+returns-11 c = simp (c .before .before .put-component2 .ensures, c .before .before .before .part-in2 .ensures .0, c .before .before .before .before .before .enum-told11 .given .1)
 
 same-length-5 : tie.Need-same-length-5
 same-length-5 c = search needs
 
 returns-12 : tie.Need-returns-12
-returns-12 c = simp (c .before .before .put-sample .ensures, c .before .before .before .before .time-in .ensures, c .before .before .before .before .before .before .before .before .enum-told12 .given .1)
+returns-12 c = simp (c .before .before .put-sample .ensures, c .before .before .before .before .time-in .ensures, c .before .before .before .before .before .before .enum-told12 .given .1)
 
 returns-13 : tie.Need-returns-13
 returns-13 c = simp (c .enum-told13 .given .1)
@@ -212,7 +173,7 @@ same-length-6 : tie.Need-same-length-6
 same-length-6 c = search needs
 
 returns-19 : tie.Need-returns-19
-returns-19 c = simp (c .before .before .put-parameter .ensures, c .before .before .before .described .ensures, c .before .before .before .before .before .before .before .enum-told19 .given .1)
+returns-19 c = simp (c .before .before .put-parameter .ensures, c .before .before .before .described .ensures, c .before .before .before .before .before .enum-told19 .given .1)
 
 pub emit-spec : {M : Type 1} → statement M
 emit-spec =
@@ -224,8 +185,6 @@ emit-spec =
     enum-told-4
     enum-told-5
     enum-told-6
-    mul-put-copies
-    add-put-copies
     pair-in-requires
     put-copies-requires
     enum-told-7
@@ -234,18 +193,12 @@ emit-spec =
     add-put-names
     put-names-requires
     enum-told-10
-    mul-put-component
-    add-put-component
     part-in-requires
     put-component-requires
     enum-told-11
-    mul-put-component-2
-    add-put-component-2
     part-in-requires-2
     put-component-requires-2
     enum-told-12
-    mul-put-sample
-    add-put-sample
     time-in-requires
     sub-put-sample
     put-sample-requires
@@ -256,8 +209,6 @@ emit-spec =
     enum-told-17
     enum-told-18
     enum-told-19
-    mul-put-parameter
-    add-put-parameter
     described-requires
     put-parameter-requires
     returns

@@ -7,10 +7,6 @@ use Rattle.maker.proofs.NamesPut.{names-put}
 use borrow.Author.Needs.{needs}
 use Rattle.maker.proofs.emit.put_names.Statement.{statement}
 use Rattle.maker.proofs.emit.put_names.Tie as tie
-use Rattle.maker.proofs.emit.put_names.Reads as reads
-use Rattle.maker.proofs.emit.put_names.Lts as lts
-use Rattle.lay.proofs.put.put_text.Reads as put-text-reads
-use Rattle.text.proofs.field.field_of.Reads as field-of-reads
 
 field-of-requires : tie.Need-field-of-requires
 field-of-requires c κs = search needs

@@ -1,6 +1,5 @@
 use Rattle.maker.proofs.make.copies_of.Statement.{statement}
 use Rattle.maker.proofs.make.copies_of.Tie as tie
-use mathlib.Core.Path.{sym}
 use borrow.Author.Tests.{eq-eqb, ne-eqb}
 
 returns : tie.Need-returns

@@ -5,15 +5,6 @@ use Rattle.maker.proofs.Writing as writing
 use borrow.Author.Needs.{needs}
 use Rattle.maker.proofs.walk.walk.Statement.{statement}
 use Rattle.maker.proofs.walk.walk.Tie as tie
-use Rattle.maker.proofs.walk.walk.Reads as reads
-use Rattle.maker.proofs.walk.walk.Lts as lts
-use Rattle.judge.proofs.tally.counted.Reads as counted-reads
-use Rattle.judge.proofs.tally.nothing.Reads as nothing-reads
-use Rattle.lineforms.proofs.due.due_after.Reads as due-after-reads
-use Rattle.lineforms.proofs.due.form_of.Reads as form-of-reads
-use Rattle.lines.proofs.Cursor.next.Reads as next-reads
-use Rattle.maker.proofs.emit.emit.Reads as emit-reads
-use Rattle.text.proofs.part.between.Reads as between-reads
 
 abbrev Inv-loop : tie.InvT-loop
 Inv-loop sheet a n out₀ c₀ due₀ x₀ out c due x = writing.Walk sheet out₀ a n out c due x
@@ -42,7 +33,7 @@ form-of-requires c κs = search needs
 emit-requires : tie.Need-emit-requires Inv-loop μ-loop
 emit-requires c κs =
     let w = c .before .before .before .before .before .before .before .before .before .loop .inv in
-    (writing.walk-small _ _ _ _ _ _ _ _ w, writing.walk-modest _ _ _ _ _ _ _ _ w, writing.walk-room _ _ _ _ _ _ _ _ w _ _ _ (sym (c .before .before .before .before .before .before .next .ensures) ∙ c .before .before .before .before .start .given .1) _ (c .before .before .between .ensures) _ (c .before .form-of .ensures))
+    (writing.walk-open _ _ _ _ _ _ _ _ w, writing.walk-room _ _ _ _ _ _ _ _ w _ _ _ (sym (c .before .before .before .before .before .before .next .ensures) ∙ c .before .before .before .before .start .given .1) _ (c .before .before .between .ensures) _ (c .before .form-of .ensures))
 
 counted-requires : tie.Need-counted-requires Inv-loop μ-loop
 counted-requires c κs = writing.walk-small _ _ _ _ _ _ _ _ (c .before .before .before .before .before .before .before .before .before .before .before .before .loop .inv)

@@ -1,51 +1,51 @@
--- The place of the name that is answered.
-use Rattle.model.proofs.Laying.{accepted-laid}
-use Rattle.trial.proofs.Places.{place-found, place-no-table, place-no-parameter}
+-- What is asked for is in the table.
+use mathlib.Core.Path.{sym, ap, subst, _∙_}
+use denote.Ref.{now}
+use Rattle.table.specs.Answers.{AskedHere, placeAnswered}
+use Rattle.table.specs.declared.naming.Asked.{Asked}
+use Rattle.table.proofs.Accepting.{opened-accepted, opened-not}
+use Rattle.table.proofs.Asking.{number-asked, number-table, number-no-table}
+use Rattle.trial.proofs.Places.{place-refused}
 use borrow.Author.Needs.{needs}
 use Rattle.trial.proofs.tables.start_of.Statement.{statement}
 use Rattle.trial.proofs.tables.start_of.Tie as tie
 
-enum-known-asked : tie.Need-enum-known-asked
-enum-known-asked c = search needs
+opening-requires : tie.Need-opening-requires
+opening-requires c κs = search needs
 
-parameter-at-requires : tie.Need-parameter-at-requires
-parameter-at-requires c κs =
-    let h = c .before .before .before .before .pre .each _ (c .before .asked .given .1) in
-    (accepted-laid _ (h .accepted) .head .sized, h .here)
+enum-known-opened : tie.Need-enum-known-opened
+enum-known-opened c = search needs
 
-text-part-requires : tie.Need-text-part-requires
-text-part-requires c κs =
-    let h = c .before .before .before .before .before .pre .each _ (c .before .before .asked .given .1) in
-    accepted-laid _ (h .accepted) .head .sized
+numbered-requires : tie.Need-numbered-requires
+numbered-requires c κs = search needs
 
-add-result : tie.Need-add-result
-add-result c = search needs
+start-in-requires : tie.Need-start-in-requires
+start-in-requires c κs =
+    let a = c .before .before .before .before .before .before .args in
+    let h = c .before .before .before .before .opening .ensures in
+    let e = c .before .before .opened .given .1 in
+    (h .opened _ e, subst (λ (x : Asked). AskedHere (now (a .t)) x) (sym (c .numbered .ensures ∙ number-table _ _ (opened-accepted h e) _ (h .opened _ e .counts .parameters-is))) (number-asked (now (a .t)) (a .parameter)))
 
 enum-told : tie.Need-enum-told
 enum-told c = search needs
 
-enum-told-2 : tie.Need-enum-told-2
-enum-told-2 c = search needs
-
 returns : tie.Need-returns
-returns c = place-found _ _ _ _ _ (c .before .before .before .before .asked .given .1) (c .before .text-part .ensures .is) (c .before .before .parameter-at .ensures .start-is)
+returns c =
+    let h = c .before .before .before .before .before .opening .ensures in
+    let e = c .before .before .before .opened .given .1 in
+    c .start-in .ensures ∙ ap (placeAnswered (now (c .before .before .before .before .before .before .before .args .t))) (c .before .numbered .ensures ∙ number-table _ _ (opened-accepted h e) _ (h .opened _ e .counts .parameters-is))
 
 returns-2 : tie.Need-returns-2
-returns-2 c = place-no-table _ _ (c .enum-told .given .1)
-
-returns-3 : tie.Need-returns-3
-returns-3 c = place-no-parameter _ _ (c .enum-told2 .given .1)
+returns-2 c = place-refused _ _ _ (number-no-table _ _ (opened-not (c .before .before .opening .ensures) (c .enum-told .given .1)))
 
 pub start-of-spec : {M : Type 1} → statement M
 start-of-spec =
     tie.close
     (tie.spec
-    enum-known-asked
-    parameter-at-requires
-    text-part-requires
-    add-result
+    opening-requires
+    enum-known-opened
+    numbered-requires
+    start-in-requires
     enum-told
-    enum-told-2
     returns
-    returns-2
-    returns-3)
+    returns-2)

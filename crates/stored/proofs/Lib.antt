@@ -1,0 +1,3 @@
+pub mod FormCases
+pub mod Reading
+pub mod Openings
