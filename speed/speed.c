@@ -14,7 +14,7 @@ static const bool all_samples = true;
 static const bool all_samples = false;
 #endif
 
-enum { ROUNDS = 31, FRAMES = 32, LENT = 70000, VALUES = 4096, WORDS = 1024, STREAM = 65536 };
+enum { ROUNDS = 31, FRAMES = 256, LENT = 70000, VALUES = 4096, WORDS = 1024, STREAM = 65536 };
 
 static char sheet[70000];
 static size_t sheet_length;
@@ -233,7 +233,7 @@ static void measured_frames(const char *size) {
     timed(proved_first, c_first, &a, &b);
     line("check and all samples", size, a, b, "");
     timed(proved_frames, c_frames, &c, &d);
-    line("all samples, once checked", size, (c - a) / FRAMES, (d - b) / FRAMES, "1.25");
+    line("all samples, once checked", size, (c - a) / FRAMES, (d - b) / FRAMES, "1.05");
 }
 
 static void measured(const char *size) {
@@ -245,7 +245,7 @@ static void measured(const char *size) {
     timed(proved_make, c_make, &a, &b);
     line("make", size, a, b, "4");
     timed(proved_check, c_check, &a, &b);
-    line("check", size, a, b, "1.5");
+    line("check", size, a, b, "1.1");
     if (all_samples) {
         measured_frames(size);
     }
