@@ -6,9 +6,9 @@ use native.Mathlib.Omega.{arith}
 use lib.ListN.{length}
 use Rattle.model.specs.Content.{Subframe, Parameter, Sample, Component}
 use Rattle.model.specs.Items.{subframePart, parameterPart, samplePart, componentPart}
-use Rattle.model.specs.Write.{texts, subframeValues, componentValues}
+use Rattle.model.specs.Write.{texts, subframeValues, componentValues, parameterFrom, sampleFrom}
 use Rattle.gather.specs.Book.{samplesOf, componentsOf}
-use Rattle.laying.specs.Parts.{entry, copied, parameterFrom, sampleFrom, subframeBytes, copiesBytes, parameterBytes, sampleBytes, componentBytes, textBytes, samplesIn, componentsIn}
+use Rattle.laying.specs.Parts.{entry, copied, subframeBytes, copiesBytes, parameterBytes, sampleBytes, componentBytes, textBytes, samplesIn, componentsIn}
 use Rattle.laying.proofs.Fronts.{nil-end}
 
 pub subframe-more : (fs : List Subframe) (f : Subframe) → subframeBytes (fs ++ (f ∷ [])) ≡ subframeBytes fs ++ entry subframePart (subframeValues f)

@@ -9,8 +9,8 @@ use Rattle.lay.proofs.Below.{length-flat, sum-same, sum-const}
 use Rattle.lay.proofs.Slots.{length-entry}
 use Rattle.model.specs.Content.{Content, Subframe, Parameter, Sample, Component}
 use Rattle.model.specs.Items.{subframePart, parameterPart, samplePart, componentPart}
-use Rattle.model.specs.Write.{texts, subframeValues, componentValues}
-use Rattle.laying.specs.Parts.{size, entry, headSize, headerOf, parameterFrom, sampleFrom, subframeBytes, copied, copiesBytes, parameterBytes, sampleBytes, componentBytes, textBytes}
+use Rattle.model.specs.Write.{texts, subframeValues, componentValues, parameterFrom, sampleFrom}
+use Rattle.laying.specs.Parts.{size, entry, headSize, headerOf, subframeBytes, copied, copiesBytes, parameterBytes, sampleBytes, componentBytes, textBytes}
 use Rattle.laying.proofs.Grown.{textLong}
 
 pub entry-long : (p : ℕ) (xs : List ℕ) → length (entry p xs) ≡ size p

@@ -10,9 +10,9 @@ use Rattle.lineforms.specs.declared.due.Form.{Form}
 use Rattle.lineforms.specs.declared.due.Form.the-variants as form
 use Rattle.model.specs.Content.{Sample}
 use Rattle.model.specs.Items.{parameterPart, samplePart, componentPart}
-use Rattle.model.specs.Write.{texts, componentValues}
+use Rattle.model.specs.Write.{texts, componentValues, parameterFrom, sampleFrom}
 use Rattle.gather.specs.Book.{Book, grow, subframeOf, componentOf, namedOf, samplesOf, componentsOf}
-use Rattle.laying.specs.Parts.{entry, copied, parameterFrom, sampleFrom, copiesBytes, parameterBytes, sampleBytes, componentBytes, samplesAll, componentsAll, textAll, Places, laid, Fits}
+use Rattle.laying.specs.Parts.{entry, copied, copiesBytes, parameterBytes, sampleBytes, componentBytes, samplesAll, componentsAll, textAll, Places, laid, Fits}
 use Rattle.laying.proofs.Fronts.{nil-end}
 use Rattle.laying.proofs.Grown.{copies-more, component-more, sample-more, parameter-more, textLong}
 use Rattle.laying.proofs.Clear.{ClearAt}

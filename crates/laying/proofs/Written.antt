@@ -8,12 +8,12 @@ use Rattle.lay.specs.Below.{sum, flat}
 use Rattle.lay.specs.Layout.{rowBytes, laid}
 use Rattle.lay.proofs.Below.{flat-same, length-flat}
 use Rattle.model.specs.Content.{Content, Subframe, Parameter, Sample, Component, noSubframe, noParameter, noSample, noComponent, subframes, parameters, parameter, allSamples, allComponents, firstSample, firstComponent}
-use Rattle.model.specs.Write.{samples, components, texts, textStart, headValues, subframeValues, parameterValues, sampleValues, componentValues, numbersOf, write}
+use Rattle.model.specs.Write.{samples, components, texts, textStart, headValues, subframeValues, parameterValues, sampleValues, componentValues, numbersOf, write, parameterFrom, sampleFrom}
 use Rattle.model.specs.Items.{subframePart, parameterPart, samplePart, componentPart, parts}
 use Rattle.model.specs.Forms.{newest}
 use Rattle.model.proofs.Rows.{known-sound, known-newest}
 use Rattle.gather.proofs.Rows.{sum-front}
-use Rattle.laying.specs.Parts.{newLayout, entry, headerOf, parameterFrom, sampleFrom, subframeBytes, parameterBytes, sampleBytes, componentBytes, textBytes, samplesIn, componentsIn}
+use Rattle.laying.specs.Parts.{newLayout, entry, headerOf, subframeBytes, parameterBytes, sampleBytes, componentBytes, textBytes, samplesIn, componentsIn}
 use Rattle.laying.proofs.Fronts.{flat-front}
 
 subframes-index : (fs : List Subframe) → flat (length fs) (λ i. entry subframePart (subframeValues (getD fs i noSubframe))) ≡ subframeBytes fs

@@ -1,6 +1,6 @@
 -- Not part of the meaning: the parts of a new table along the lists of what was gathered, so that a line's share stands at
 -- the end of its part. Where an item stands in its entry is the newest form's matter.
-use Prim.Native.Nat.{ℕ, _+_, _*_, _≤_}
+use Prim.Native.Nat.{ℕ, _+_, _≤_}
 use mathlib.Core.List.{List, [], _∷_, _++_}
 use mathlib.Core.Bool.{cond}
 use lib.Dec.{eqb}
@@ -12,7 +12,7 @@ use Rattle.lay.specs.Layout.{Layout, slotsOf}
 use Rattle.model.specs.Content.{Content, Subframe, Parameter, Sample, Component}
 use Rattle.model.specs.Items.{subframePart, parameterPart, samplePart, componentPart}
 use Rattle.model.specs.Forms.{newest, layoutOf}
-use Rattle.model.specs.Write.{texts, bit, headValues, subframeValues, componentValues}
+use Rattle.model.specs.Write.{texts, headValues, subframeValues, parameterFrom, sampleFrom, componentValues}
 use Rattle.gather.specs.Book.{Book}
 
 abbrev pub newLayout : Layout
@@ -34,23 +34,6 @@ header xs = entryBytes (newLayout .header) (λ k. getD xs k 0)
 
 abbrev pub headerOf : Content → List ℕ
 headerOf c = header (headValues newLayout newest c)
-
--- one parameter, so many bytes of text and samples before it
-unfoldable pub parameterFrom : Parameter → ℕ → ℕ → List ℕ
-parameterFrom p start first =
-    length (p .name)
-    ∷ length (p .mnemonic)
-    ∷ length (p .identification)
-    ∷ (bit (p .signed) + 2 * bit (p .identifier))
-    ∷ start
-    ∷ first
-    ∷ length (p .samples)
-    ∷ p .value
-    ∷ []
-
--- one sample, so many components before it
-unfoldable pub sampleFrom : Sample → ℕ → List ℕ
-sampleFrom s first = s .time ∷ first ∷ length (s .components) ∷ []
 
 unfoldable pub subframeBytes : List Subframe → List ℕ
 subframeBytes [] = []

@@ -25,7 +25,7 @@ ghost use Rattle.rules.specs.Ruled.{RuledBy, BasesOf};
 ghost use Rattle.listed.specs.Listing.{headingText, sampleRow, rowMost, parameterRows, rowsMost, refusedText, fitNumber, wordsOf};
 
 // Enough for any row beside its name, any row, and any parameter's rows.
-pub const BESIDE: usize = 86;
+const BESIDE: usize = 86;
 
 pub const ROW: usize = TEXT + BESIDE;
 

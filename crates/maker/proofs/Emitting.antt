@@ -11,11 +11,11 @@ use Rattle.lineforms.specs.declared.due.Form.{Form}
 use Rattle.lineforms.specs.declared.due.Form.the-variants as form
 use Rattle.model.specs.Content.{Parameter, Sample, Subframe, noParameter}
 use Rattle.model.specs.Items.{subframePart, parameterPart, samplePart, componentPart}
-use Rattle.model.specs.Write.{texts, componentValues}
+use Rattle.model.specs.Write.{texts, componentValues, parameterFrom, sampleFrom}
 use Rattle.gather.specs.Book.{Book, subframeOf, namedOf, componentOf, samplesOf, componentsOf, allComponentsOf}
 use Rattle.stored.specs.declared.items.Starts.{Starts}
 use Rattle.judge.specs.Counts.{textOf, tallyOf}
-use Rattle.laying.specs.Parts.{size, entry, copied, parameterFrom, sampleFrom, copiesBytes, parameterBytes, textBytes, samplesIn, componentsIn, samplesAll, componentsAll, textAll}
+use Rattle.laying.specs.Parts.{size, entry, copied, copiesBytes, parameterBytes, textBytes, samplesIn, componentsIn, samplesAll, componentsAll, textAll}
 use Rattle.laying.proofs.Grown.{textLong}
 use Rattle.laying.proofs.Lengths.{once-long, parameters-long, samples-long, components-long, texts-long}
 use Rattle.laying.proofs.Clear.{ClearAt}
