@@ -38,6 +38,12 @@ static const char none[] = "HEADER:\n"
                            "12,4,,,1.0\n"
                            "NONE\n";
 
+/* The wall's frame on a card: behind four bits three leading ones, its words, a trailing one. */
+static const uint8_t stream[7] = {0xa0, 0x23, 0x29, 0, 0, 0x30, 0x80};
+
+/* a card with a byte too many */
+static const uint8_t longer[65537];
+
 static unsigned answers;
 static unsigned wrong;
 
@@ -97,6 +103,20 @@ static int says(const uint8_t *part, const char *text, size_t length) {
     return 1;
 }
 
+static int is_two(const uint8_t *at, uint32_t number) { return (at[0] | (uint32_t)at[1] << 8) == number; }
+
+static void put_two(uint8_t *at, uint32_t number) {
+    at[0] = (uint8_t)number;
+    at[1] = (uint8_t)(number >> 8);
+}
+
+/* the wall's table in this form, with these leading and trailing bits */
+static void put_form(uint8_t *table, uint32_t form, uint32_t leading, uint32_t trailing) {
+    put_two(table + 14, form);
+    put_two(table + 40, leading);
+    put_two(table + 42, trailing);
+}
+
 /* leaves the wall's table in the first 134 bytes */
 static void making(uint8_t *lent, size_t lent_len) {
     const uint8_t *sheet = bytes(wall);
@@ -108,15 +128,23 @@ static void making(uint8_t *lent, size_t lent_len) {
     answer(untouched(lent, 0, lent_len), "no refusal writes a byte");
     answer(is_made(orb_make(sheet, wall_len, lent, lent_len), 0, 134), "the wall's table has 134 bytes");
     answer(untouched(lent, 134, lent_len), "later bytes stay");
+    answer(is_two(lent + 14, 2), "it is of form 2");
+    answer(is_two(lent + 40, 65535) && is_two(lent + 42, 65535), "its blank margins are 65,535");
 }
 
 static void checking(uint8_t *table) {
     answer(orb_check(table, 134) == 0, "the made table is one");
     answer(orb_check(table, 135) == 18, "one byte more is 18");
     answer(orb_check(NULL, 0) == 18, "no bytes are 18");
-    table[14] = 2;
-    answer(orb_check(table, 134) == 18, "form 2 is 18");
-    table[14] = 1;
+    put_form(table, 2, 4095, 0);
+    answer(orb_check(table, 134) == 0, "4,095 leading bits are accepted");
+    put_form(table, 2, 0, 4096);
+    answer(orb_check(table, 134) == 18, "4,096 trailing bits are 18");
+    put_form(table, 1, 0, 65535);
+    answer(orb_check(table, 134) == 18, "a margin of 65,535 is 18 in form 1");
+    put_form(table, 3, 0, 0);
+    answer(orb_check(table, 134) == 18, "form 3 is 18");
+    put_form(table, 2, 65535, 65535);
 }
 
 static void reading(const uint8_t *table) {
@@ -165,16 +193,55 @@ static void naming(const uint8_t *table) {
     answer(is_name(orb_name_by(table, 133, bytes("PCH"), 3), 18, 0, 0), "a mnemonic without a table: 18");
 }
 
-/* The wall's sheet with three leading bits and one trailing: its table, which the wall's has but for two bytes. */
+/* The wall's table as it was made before form 2: all but cards is as it was. */
+static void in_form_1(uint8_t *table) {
+    uint16_t words[4] = {583, 5, 0, 6};
+    put_form(table, 1, 0, 0);
+    answer(orb_check(table, 134) == 0, "form 1 is a table");
+    answer(is_sample(orb_read(table, 134, words, 4, 2, 1), 6, 53, -11), "by form 1 Pitch reads 53, that is -11");
+    answer(is_compared(orb_compare(table, 134, words, 4), 0, 0), "by form 1 the frame passes");
+    answer(orb_place(table, 134, words, 4, 2, 1, 63) == 0, "by form 1 63 is placed");
+    answer(is_frame(words, 583, 15, 0, 6), "and gives 583, 15, 0, 6");
+    answer(is_name(orb_name_of(table, 134, 2), 0, 126, 5), "by form 1 the name of parameter 2 stands at 126");
+    answer(is_name(orb_name_by(table, 134, bytes("PCH"), 3), 0, 126, 5), "and PCH is the same");
+    put_form(table, 2, 65535, 65535);
+}
+
+/* a card that has the frame, from its first bit and from another on, and one with a byte too many */
+static int is_26(const uint8_t *table, uint16_t *words) {
+    return is_carded(orb_card(table, 134, stream, 7, words, 4), 26, 0, 0) &&
+           is_carded(orb_card_from(table, 134, stream, 7, 4, words, 4), 26, 0, 0) &&
+           is_carded(orb_card(table, 134, longer, 65537, words, 4), 26, 0, 0);
+}
+
+/* The wall's table as it was made, with one margin blank, and of form 1. */
+static void margins_unknown(uint8_t *table) {
+    uint16_t words[4] = {7, 7, 7, 7};
+    answer(is_26(table, words), "blank margins: 26, before 38");
+    answer(orb_frame_bits(table, 134) == 0, "and a frame's bits are 0");
+    put_form(table, 2, 65535, 1);
+    answer(is_26(table, words), "leading bits blank: 26");
+    answer(orb_frame_bits(table, 134) == 0, "and a frame's bits are 0, the leading ones being blank");
+    put_form(table, 2, 3, 65535);
+    answer(is_26(table, words), "trailing bits blank: 26");
+    answer(orb_frame_bits(table, 134) == 0, "and a frame's bits are 0, the trailing ones being blank");
+    put_form(table, 1, 0, 0);
+    answer(is_26(table, words), "form 1: 26");
+    answer(orb_frame_bits(table, 134) == 0, "and by form 1 a frame's bits are 0");
+    put_form(table, 1, 3, 1);
+    answer(is_26(table, words), "form 1 without a 0 for a margin: 26 too");
+    answer(orb_frame_bits(table, 134) == 0, "and a frame's bits are 0 too");
+    answer(is_frame(words, 7, 7, 7, 7), "no 26 writes a word");
+    put_form(table, 2, 65535, 65535);
+}
+
+/* The wall's sheet with three leading bits and one trailing: its table, which the wall's has but for four bytes. */
 static void carding(uint8_t *table) {
-    static uint8_t longer[65537];
-    const uint8_t stream[7] = {0xa0, 0x23, 0x29, 0, 0, 0x30, 0x80};
     uint16_t words[5] = {7, 7, 7, 7, 7};
     uint8_t bare[56];
     answer(is_made(orb_make(bytes(none), sizeof none - 1, bare, 56), 0, 56), "a table without parameters has 56 bytes");
-    answer(is_carded(orb_card(bare, 56, longer, 65537, words, 5), 27, 0, 0), "it is 27, before 38");
-    table[40] = 3;
-    table[42] = 1;
+    answer(is_carded(orb_card(bare, 56, longer, 65537, words, 5), 27, 0, 0), "it is 27, before 26 and 38");
+    put_form(table, 2, 3, 1);
     answer(orb_frame_bits(table, 134) == 52, "a frame has 52 bits");
     answer(orb_frame_bits(table, 133) == 0, "no table has none");
     answer(is_carded(orb_card(table, 133, stream, 7, words, 5), 18, 0, 0), "a card without a table: 18");
@@ -189,8 +256,7 @@ static void carding(uint8_t *table) {
     answer(is_frame(words, 583, 5, 0, 6) && words[4] == 7, "its words are handed out, the next one stays");
     answer(is_carded(orb_card_from(table, 134, stream, 7, 4, words, 5), 0, 4, 4), "from bit 4 on it is found too");
     answer(is_sample(orb_read(table, 134, words, 4, 2, 1), 6, 53, -11), "and Pitch reads 53, that is -11");
-    table[40] = 0;
-    table[42] = 0;
+    put_form(table, 2, 65535, 65535);
 }
 
 int main(void) {
@@ -204,6 +270,8 @@ int main(void) {
     placing(table);
     comparing(table);
     naming(table);
+    in_form_1(table);
+    margins_unknown(table);
     carding(table);
     if (wrong != 0) {
         return 1;

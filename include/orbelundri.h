@@ -62,10 +62,12 @@ typedef struct {
     uint32_t count;
 } orb_carded;
 
-/* The sheet's table at the front of the bytes lent for it; later bytes stay. Refuses with 1 to 17. */
+/* The sheet's table at the front of the bytes lent for it; later bytes stay. It is of form 2: leading or trailing bits that the
+ * sheet leaves blank are unknown in it, not 0. Refuses with 1 to 17. */
 orb_made orb_make(const uint8_t *sheet, size_t sheet_len, uint8_t *table, size_t table_len);
 
-/* Whether the bytes are a table, whoever made them: 0 or 18. The length is the table's own. */
+/* Whether the bytes are a table, of form 1 or 2, whoever made them: 0 or 18. The length is the table's own. By form 1 all is
+ * answered as by form 2, but for cards. */
 uint32_t orb_check(const uint8_t *table, size_t table_len);
 
 /* One sample of a frame. Refuses with 18, 21, 22, 19 or 20, tested in this order. */
@@ -88,17 +90,22 @@ orb_name orb_name_by(const uint8_t *table, size_t table_len, const uint8_t *mnem
 
 /* The first frame on a quick access card: the first bit position at which a whole frame fits, its last trailing bit too, and
  * every record identifier agrees. The stream takes the low bit of each byte and of each word first. Refuses with 18, 27 (no
- * parameters), 38 (more than 65,536 bytes), 25 (no such position) or 28 (too few words lent), tested in this order. Words beyond
- * the frame's stay. */
+ * parameters), 26 (margins not known), 38 (more than 65,536 bytes), 25 (no such position) or 28 (too few words lent), tested in
+ * this order. Words beyond the frame's stay.
+ *
+ * 26: a subframe's leading or trailing bits are unknown, so nobody can tell where its words stand on a card. They are where the
+ * sheet leaves them blank, in any subframe, and in every table of form 1, whatever its margins: there a blank was stored as 0.
+ * A new table of a sheet with every margin written, 0 where there is none, is never 26. */
 orb_carded orb_card(const uint8_t *table, size_t table_len, const uint8_t *stream, size_t stream_len, uint16_t *words,
                     size_t words_len);
 
-/* The same from bit position from on, any number: beyond the stream's end it is 25. A card's next frame is looked for from the
- * last one's position plus the frame's bits on. */
+/* The same, 26 too, from bit position from on, any number: beyond the stream's end it is 25. A card's next frame is looked for
+ * from the last one's position plus the frame's bits on. */
 orb_carded orb_card_from(const uint8_t *table, size_t table_len, const uint8_t *stream, size_t stream_len, uint32_t from,
                          uint16_t *words, size_t words_len);
 
-/* How many bits a frame has on a card: every subframe's leading bits, words and trailing bits. 0 where the bytes are no table. */
+/* How many bits a frame has on a card: every subframe's leading bits, words and trailing bits. 0 where the bytes are no table or
+ * its margins are not known: in form 1, or with an unknown one. */
 uint32_t orb_frame_bits(const uint8_t *table, size_t table_len);
 
 #ifdef __cplusplus

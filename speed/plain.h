@@ -26,6 +26,9 @@ orb_carded plain_card_from(const uint8_t *table, size_t table_len, const uint8_t
 orb_carded quick_card_from(const uint8_t *table, size_t table_len, const uint8_t *stream, size_t stream_len, uint32_t from,
                            uint16_t *words, size_t words_len);
 
+/* A margin that is not known, from form 2 on. */
+enum { UNKNOWN = 65535 };
+
 /* Numbers in a table's bytes, the lowest byte first. */
 static inline uint32_t get2(const uint8_t *t) { return t[0] | (uint32_t)t[1] << 8; }
 

@@ -156,6 +156,17 @@ static size_t hand_out(const uint8_t *t, const uint8_t *stream, size_t length, s
     return count;
 }
 
+/* Nobody can tell what the margins of form 1 are. */
+static bool margins_known(const uint8_t *t) {
+    for (uint32_t i = 0; i < get2(t + 4); i++) {
+        const uint8_t *f = t + 36 + 20 * i;
+        if (get2(f + 4) == UNKNOWN || get2(f + 6) == UNKNOWN) {
+            return false;
+        }
+    }
+    return get2(t + 14) != 1;
+}
+
 static size_t words_of(const uint8_t *t) {
     size_t count = 0;
     for (uint32_t i = 0; i < get2(t + 4); i++) {
@@ -172,6 +183,9 @@ static orb_carded card_by(size_t (*searched)(const uint8_t *, size_t, size_t, co
     }
     if (get2(table + 6) == 0) {
         return (orb_carded){27, 0, 0};
+    }
+    if (!margins_known(table)) {
+        return (orb_carded){26, 0, 0};
     }
     if (stream_len > LONGEST) {
         return (orb_carded){38, 0, 0};

@@ -140,9 +140,9 @@ static uint32_t integer(piece f, size_t most_digits, uint64_t least, uint64_t mo
     return 0;
 }
 
-/* Leading and trailing bits: empty says 0. */
+/* Leading and trailing bits: empty says unknown. */
 static uint32_t margin(piece f, uint32_t *value) {
-    *value = 0;
+    *value = UNKNOWN;
     return f.length == 0 ? 0 : integer(f, 6, 0, 4095, value);
 }
 
@@ -641,7 +641,7 @@ static uint8_t *put_header(uint8_t *t, const book *b, uint32_t total) {
     put2(t + 8, b->sample_count);
     put2(t + 10, b->component_count);
     put2(t + 12, b->sequential);
-    put2(t + 14, 1);
+    put2(t + 14, 2);
     put4(t + 16, 36);
     put4(t + 20, parameters);
     put4(t + 24, samples);

@@ -4,7 +4,7 @@
 /* Where the parts of a table begin, and how many entries each has. */
 typedef struct {
     const uint8_t *subframes, *parameters, *samples, *components, *text;
-    uint32_t subframe_count, parameter_count, sample_count, component_count, text_length;
+    uint32_t form, subframe_count, parameter_count, sample_count, component_count, text_length;
 } view;
 
 static bool counts_ok(const view *v) {
@@ -21,7 +21,8 @@ static bool open_table(const uint8_t *t, size_t length, view *v) {
     v->parameter_count = get2(t + 6);
     v->sample_count = get2(t + 8);
     v->component_count = get2(t + 10);
-    if (!counts_ok(v) || get2(t + 12) > 1 || get2(t + 14) != 1) {
+    v->form = get2(t + 14);
+    if (!counts_ok(v) || get2(t + 12) > 1 || v->form < 1 || v->form > 2) {
         return false;
     }
     uint32_t parameters = 36 + 20 * v->subframe_count;
@@ -45,15 +46,18 @@ static bool seconds_ok(uint64_t above, uint64_t below) {
     return above >= 1 && below >= 1 && below <= 1000000 && above < 1000000 * below && common_divisor(above, below) == 1;
 }
 
-static bool subframe_ok(const uint8_t *f) {
+/* Form 1 has no unknown margin. */
+static bool margin_ok(uint32_t form, uint32_t margin) { return margin <= 4095 || (margin == UNKNOWN && form == 2); }
+
+static bool subframe_ok(uint32_t form, const uint8_t *f) {
     uint32_t bits = get2(f), words = get2(f + 2);
-    return 1 <= bits && bits <= 16 && 1 <= words && words <= 1024 && get2(f + 4) <= 4095 && get2(f + 6) <= 4095 &&
-           seconds_ok(get8(f + 8), get4(f + 16));
+    return 1 <= bits && bits <= 16 && 1 <= words && words <= 1024 && margin_ok(form, get2(f + 4)) &&
+           margin_ok(form, get2(f + 6)) && seconds_ok(get8(f + 8), get4(f + 16));
 }
 
 static bool subframes_ok(const view *v) {
     for (uint32_t i = 0; i < v->subframe_count; i++) {
-        if (!subframe_ok(v->subframes + 20 * i)) {
+        if (!subframe_ok(v->form, v->subframes + 20 * i)) {
             return false;
         }
     }

@@ -289,11 +289,29 @@ static void same_cards(const char *size) {
     stream[40000] = last;
 }
 
+static void same_26(const char *size) {
+    orb_carded a = orb_card_from(proved_table, table_length, stream, STREAM, 0, words, WORDS);
+    orb_carded b = plain_card_from(proved_table, table_length, stream, STREAM, 0, words, WORDS);
+    same(a.number == 26 && same_carded(a, b), "card, 26", size);
+}
+
+/* The same table in form 1, and with the last trailing bits unknown. */
+static void same_unknown(const char *size) {
+    uint8_t *trailing = proved_table + get4(proved_table + 20) - 14;
+    put2(proved_table + 14, 1);
+    same_26(size);
+    put2(proved_table + 14, 2);
+    put2(trailing, UNKNOWN);
+    same_26(size);
+    put2(trailing, 0);
+}
+
 static void measured_card(uint32_t subframes, const char *size) {
     double a, b;
     carded(subframes);
     same_made(size);
     random_stream(subframes);
+    same_unknown(size);
     same_cards(size);
     same(orb_card(proved_table, table_length, stream, STREAM, words, WORDS).number == 25, "card, 25", size);
     timed(proved_card, c_card, &a, &b);

@@ -112,11 +112,11 @@ fn drawn(random: &mut Random) -> Case {
     match random.below(100) {
         0..=35 => drawn_make(random),
         36..=51 => check(random),
-        52..=62 => read(random),
-        63..=71 => place(random),
-        72..=77 => compare(random),
-        78..=80 => name(random),
-        81..=84 => mnemonic(random),
+        52..=60 => read(random),
+        61..=69 => place(random),
+        70..=75 => compare(random),
+        76..=78 => name(random),
+        79..=82 => mnemonic(random),
         _ => card_cases::drawn(random),
     }
 }
@@ -176,41 +176,47 @@ fn lent_near_length(random: &mut Random, sheet: &[u8]) -> usize {
     }
 }
 
-/// A table, mostly a made one, and what it was made from.
+/// A table of either form, mostly a lawful one, and what it was made from.
 fn table(random: &mut Random, damaged_percent: usize) -> (Vec<u8>, Contents) {
     let contents =
         if random.percent(60) { lawful::with_parameters(random) } else { lawful::contents(random) };
     if random.percent(damaged_percent) {
         return (damage::damaged(random, &contents), contents);
     }
-    (making::table_bytes(&contents), contents)
+    (making::table_of_form(lawful::form(random), &contents), contents)
 }
 
 fn check(random: &mut Random) -> Case {
     if random.percent(12) {
         let mut contents = lawful::frame_only(random);
         breaks::rule_of_frames(random, &mut contents);
-        return Case::Check { table: making::table_bytes(&contents) };
+        return Case::Check { table: making::table_of_form(lawful::form(random), &contents) };
+    }
+    if random.percent(9) {
+        let contents = lawful::contents(random);
+        return Case::Check { table: damage::of_other_form(random, &contents) };
     }
     let (table, _) = table(random, 88);
     Case::Check { table }
 }
 
 fn large_table(random: &mut Random, turn: usize) -> Vec<u8> {
-    making::table_bytes(&match turn % 5 {
+    let form = lawful::form(random);
+    let contents = match turn % 5 {
         0 => large::of_parameters(random, 513),
         1 => large::of_components(4097),
         2 => large::beyond_any_sheet(random),
         3 => large::of_components(4096),
         _ => large::table_above_65536(random),
-    })
+    };
+    making::table_of_form(form, &contents)
 }
 
 /// The longest frames, or a sample far down in a long table.
 fn large_frame(random: &mut Random, turn: usize) -> Case {
     let contents =
         if turn.is_multiple_of(2) { large::of_words(random) } else { large::of_samples(random, 4096) };
-    let table = making::table_bytes(&contents);
+    let table = making::table_of_form(lawful::form(random), &contents);
     let mut frame = frames::fitting(random, &contents);
     let parameter = random.between(1, contents.parameters.len()) as u32;
     let sample = random.between(1, contents.parameters[parameter as usize - 1].samples.len()) as u32;

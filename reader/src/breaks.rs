@@ -39,7 +39,7 @@ const STORED: &[Break] = &[
     component_outside,
     component_outside,
     component_outside,
-    margin_too_high,
+    margin_outside,
     size_outside,
     size_outside,
     bad_fraction,
@@ -75,7 +75,7 @@ pub fn rule_of_tables(random: &mut Random, contents: &mut Contents) {
 
 /// Rules that contents without parameters can break.
 pub fn rule_of_frames(random: &mut Random, contents: &mut Contents) {
-    let list: [Break; 4] = [margin_too_high, size_outside, bad_fraction, no_subframes];
+    let list: [Break; 4] = [margin_outside, size_outside, bad_fraction, no_subframes];
     random.pick(&list)(random, contents);
 }
 
@@ -270,9 +270,10 @@ fn component_outside(random: &mut Random, contents: &mut Contents) {
     }
 }
 
-fn margin_too_high(random: &mut Random, contents: &mut Contents) {
+/// 65,535 breaks the rule in form 1 only.
+fn margin_outside(random: &mut Random, contents: &mut Contents) {
     let index = random.below(contents.subframes.len());
-    let value = *random.pick(&[4096, 65_535, 65_535, 5000]);
+    let value = Some(*random.pick(&[4096, 65_534, 65_535, 65_535, 5000]));
     let subframe = &mut contents.subframes[index];
     let margin = if random.percent(50) { &mut subframe.leading } else { &mut subframe.trailing };
     *margin = value;

@@ -14,12 +14,19 @@ use crate::streams::{self, Stream};
 /// The longest stream.
 const LONGEST: usize = 65_536;
 
-/// Mostly a made table with parameters, and a stream for it.
+/// Mostly a made table with parameters and known margins, and a stream for it.
 pub fn drawn(random: &mut Random) -> Case {
-    let contents = if random.percent(9) { lawful::frame_only(random) } else { streams::contents(random) };
+    let contents = match random.below(100) {
+        0..=8 => lawful::frame_only(random),
+        9..=19 => streams::of_unknown_margins(random),
+        _ => streams::contents(random),
+    };
     let stream = streams::drawn(random, &contents);
-    let table =
-        if random.percent(5) { damage::damaged(random, &contents) } else { making::table_bytes(&contents) };
+    let table = match random.below(100) {
+        0..=4 => damage::damaged(random, &contents),
+        5..=12 => making::table_of_form(1, &contents),
+        _ => making::table_bytes(&contents),
+    };
     let lent = lent(random, &contents);
     if random.percent(50) {
         return Case::Card { table, stream: stream.bytes(), lent };
@@ -43,7 +50,7 @@ fn lent(random: &mut Random, contents: &Contents) -> usize {
 /// At and about a frame's position, at and about the end, and far beyond it.
 fn from(random: &mut Random, contents: &Contents, stream: &Stream) -> u32 {
     let end = 8 * stream.bytes().len();
-    let length = carding::frame_bits(contents);
+    let length = carding::frame_length(contents);
     let at = if stream.positions.is_empty() { 0 } else { *random.pick(&stream.positions) };
     let from = match random.below(22) {
         0 => 0,
@@ -72,12 +79,13 @@ pub fn too_long(random: &mut Random) -> Case {
 
 /// A stream too long for a table that is refused first.
 pub fn too_long_and_refused(random: &mut Random, turn: usize) -> Case {
-    let contents = match turn % 2 {
+    let contents = match turn % 4 {
         0 => lawful::frame_only(random),
+        1 => streams::of_unknown_margins(random),
         _ => streams::contents(random),
     };
-    let mut table = making::table_bytes(&contents);
-    if turn % 2 == 1 {
+    let mut table = making::table_of_form(if turn % 4 == 2 { 1 } else { 2 }, &contents);
+    if turn % 4 == 3 {
         table.pop();
     }
     let stream = stretched(random, &contents, LONGEST + 1);
@@ -130,7 +138,7 @@ pub fn longest(random: &mut Random, turn: usize) -> Case {
 fn at_the_very_end(random: &mut Random, beyond: usize) -> Case {
     let contents = streams::contents(random);
     let mut stream = Stream::new(random);
-    let before = 8 * LONGEST + beyond - carding::frame_bits(&contents);
+    let before = 8 * LONGEST + beyond - carding::frame_length(&contents);
     stream.fill(random, before);
     stream.put_agreeing(random, &contents);
     let mut bytes = stream.bytes();
@@ -143,7 +151,7 @@ fn at_the_very_end(random: &mut Random, beyond: usize) -> Case {
 /// bit more it fits nowhere.
 fn longest_frame(random: &mut Random, leading: u16, fewer: usize) -> Case {
     let mut contents = large::of_words(random);
-    contents.subframes[0].leading = leading;
+    contents.subframes[0].leading = Some(leading);
     let mut frame = frames::fitting(random, &contents);
     frames::place_identifiers(&contents, &mut frame);
     let stream = frame.iter().flat_map(|word| word.to_le_bytes()).collect();

@@ -32,7 +32,7 @@ fn rows(sheet: &[u8], stream: &[u8]) -> Result<Vec<u8>, (u8, u32)> {
     let mut found = carding::card(&table, stream, &mut words).map_err(|number| (number, 0))?;
     loop {
         put_rows(&mut text, &contents, found.position, &words);
-        let next = after(&contents, found.position);
+        let next = after(&table, found.position);
         found = match carding::card_from(&table, stream, next as u32, &mut words) {
             Ok(later) if !wrongly(Wrong::CardsFirstOnly) => later,
             Err(number) if wrongly(Wrong::CardsEndRefused) => return Err((number, 0)),
@@ -49,11 +49,11 @@ fn rows(sheet: &[u8], stream: &[u8]) -> Result<Vec<u8>, (u8, u32)> {
 }
 
 /// Where the next frame may begin: behind the last one's last trailing bit.
-fn after(contents: &Contents, position: usize) -> usize {
+fn after(table: &[u8], position: usize) -> usize {
     if wrongly(Wrong::CardsNextBit) {
         return position + 1;
     }
-    position + carding::frame_bits(contents)
+    position + carding::frame_bits(table)
 }
 
 /// A row for each parameter's each sample.
@@ -72,7 +72,7 @@ fn put_rows(text: &mut Vec<u8>, contents: &Contents, position: usize, words: &[u
 #[cfg(test)]
 mod tests {
     use super::*;
-    use crate::listings::WALL;
+    use crate::listings::{wall_with, WALL};
 
     #[test]
     fn the_example_card() {
@@ -83,6 +83,15 @@ mod tests {
     }
 
     #[test]
+    fn the_example_card_of_a_blank_margin() {
+        let sheet = include_bytes!("../../examples/card-blank-margin/sheet.frcs");
+        let stream = include_bytes!("../../examples/card-blank-margin/card.bin");
+        let stored = include_str!("../../examples/card-blank-margin/listing");
+        assert_eq!(String::from_utf8_lossy(&listing(sheet, stream)), stored);
+        assert_eq!(stored, "refused 26 0\n");
+    }
+
+    #[test]
     fn the_wall_twice_and_its_refusals() {
         let text = |sheet: &str, stream: &[u8]| {
             String::from_utf8_lossy(&listing(sheet.as_bytes(), stream)).into_owned()
@@ -90,13 +99,17 @@ mod tests {
         let frame = [0x47, 0x52, 0, 0, 0x60, 0];
         let rows = |position: &str| format!("{position},Sync,1,12,583,583\n{position},Pitch,1,6,53,-11\n");
         let heading = "position,name,sample,width,raw,value\n";
-        assert_eq!(text(WALL, &frame), [heading, &rows("0")].concat());
+        let wall = &wall_with("0,0")[..];
+        assert_eq!(text(wall, &frame), [heading, &rows("0")].concat());
         let between = [&frame[..], &[0], &frame[..]].concat();
-        assert_eq!(text(WALL, &between), [heading, &rows("0"), &rows("56")].concat());
+        assert_eq!(text(wall, &between), [heading, &rows("0"), &rows("56")].concat());
         let bare = "HEADER:\n2.0,,A,,,1,,,True,,,1,,\nRECORD:\n12,4,,,1.0\nNONE\n";
         assert_eq!(text("", &frame), "refused 4 1\n");
         assert_eq!(text(bare, &[0; 65_537]), "refused 27 0\n");
-        assert_eq!(text(WALL, &[0; 65_537]), "refused 38 0\n");
-        assert_eq!(text(WALL, &[]), "refused 25 0\n");
+        assert_eq!(text(WALL, &frame), "refused 26 0\n");
+        assert_eq!(text(&wall_with("3,"), &[]), "refused 26 0\n");
+        assert_eq!(text(&wall_with(",1"), &[0; 65_537]), "refused 26 0\n");
+        assert_eq!(text(wall, &[0; 65_537]), "refused 38 0\n");
+        assert_eq!(text(wall, &[]), "refused 25 0\n");
     }
 }

@@ -7,7 +7,7 @@ use crate::contents::Contents;
 use crate::draft;
 use crate::large;
 use crate::lawful;
-use crate::listings::WALL;
+use crate::listings::{self, WALL};
 use crate::random::Random;
 use crate::sheets;
 use crate::streams;
@@ -37,6 +37,8 @@ impl CardListing {
 
 const NONE: &[u8] = b"HEADER:\n2.0,A,TypeX,,,001,,,True,,,1,,\nRECORD:\n12,4,3,1,1.0\nNONE\n";
 
+const BLANK_NONE: &[u8] = b"HEADER:\n2.0,A,TypeX,,,001,,,True,,,1,,\nRECORD:\n12,4,,,1.0\nNONE\n";
+
 /// The shortest frame, so that a card has many.
 const ONE_BIT: &[u8] =
     b"HEADER:\n2.0,,A,,,1,,,True,,,1,,\nRECORD:\n1,1,0,0,1\nPARAMETER:\nSync,,,True,,,\n1,1,0,1\n\
@@ -44,7 +46,8 @@ const ONE_BIT: &[u8] =
 
 /// The first ones are fixed, the others drawn.
 pub fn one(random: &mut Random, index: usize) -> CardListing {
-    let wall = || Some(WALL.replace("12,4,,,1.0", "12,4,3,1,1.0").into_bytes());
+    let wall_with = |margins: &str| Some(listings::wall_with(margins).into_bytes());
+    let wall = || wall_with("3,1");
     let stream = || Some(vec![0xa0, 0x23, 0x29, 0, 0, 0x30, 0x80]);
     let zeros = |count| Some(vec![0; count]);
     match index {
@@ -67,6 +70,10 @@ pub fn one(random: &mut Random, index: usize) -> CardListing {
         10 => longest_frame(random),
         11 => CardListing { sheet: Some(b"HEADER:\n".to_vec()), stream: zeros(65_537) },
         12 => CardListing { sheet: Some(ONE_BIT.to_vec()), stream: Some(vec![165; 2000]) },
+        13 => CardListing { sheet: Some(WALL.as_bytes().to_vec()), stream: stream() },
+        14 => CardListing { sheet: wall_with("3,"), stream: stream() },
+        15 => CardListing { sheet: wall_with(",1"), stream: zeros(65_537) },
+        16 => CardListing { sheet: Some(BLANK_NONE.to_vec()), stream: stream() },
         _ => drawn(random),
     }
 }
@@ -84,6 +91,10 @@ fn drawn(random: &mut Random) -> CardListing {
         0 => refused_sheet(random),
         1 => {
             let contents = lawful::frame_only(random);
+            listing_of(random, &contents)
+        }
+        2 => {
+            let contents = streams::of_unknown_margins(random);
             listing_of(random, &contents)
         }
         _ => {

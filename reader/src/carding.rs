@@ -1,10 +1,10 @@
-//! Reading a quick access card, a stream of bits: 18, 27, 38, 25, 28.
+//! Reading a quick access card, a stream of bits: 18, 27, 26, 38, 25, 28.
 //!
 //! The low bit of each byte comes first, and the low bit of each word. A
 //! subframe is its leading bits, its words, its trailing bits.
 
-use crate::checking;
-use crate::contents::Contents;
+use crate::checking::{self, Table};
+use crate::contents::{Contents, Subframe};
 use crate::limits;
 use crate::wrong::{wrongly, Wrong};
 
@@ -36,8 +36,9 @@ pub fn card_from(table: &[u8], stream: &[u8], from: u32, words: &mut [u16]) -> R
 }
 
 fn sought(table: &[u8], stream: &[u8], from: usize, words: &mut [u16]) -> Result<Found, u8> {
-    let contents = checking::check(table).ok_or(18)?.contents;
-    judge_stream(&contents, stream)?;
+    let table = checking::check(table).ok_or(18)?;
+    judge_stream(&table, stream)?;
+    let contents = table.contents;
     let frame_words = contents.frame_words();
     if wrongly(Wrong::Card28First) && words.len() < frame_words {
         return Err(28);
@@ -55,21 +56,47 @@ fn sought(table: &[u8], stream: &[u8], from: usize, words: &mut [u16]) -> Result
     Ok(Found { position: position + leading, count })
 }
 
-/// 27, then 38.
-fn judge_stream(contents: &Contents, stream: &[u8]) -> Result<(), u8> {
+/// 27, 26, then 38.
+fn judge_stream(table: &Table, stream: &[u8]) -> Result<(), u8> {
     let judged_later = wrongly(Wrong::CardStreamCut) || wrongly(Wrong::Card25First);
     let too_long = stream.len() > limits::stream() && !judged_later;
-    if wrongly(Wrong::Card38First) && too_long {
-        return Err(38);
+    let unknown = !margins_are_known(table);
+    let bare = table.contents.parameters.is_empty();
+    let judged = [
+        (too_long && wrongly(Wrong::Card38First), 38),
+        (unknown && wrongly(Wrong::Card26First), 26),
+        (bare && !wrongly(Wrong::CardNoParameters), 27),
+        (unknown && !wrongly(Wrong::Card26After38), 26),
+        (too_long, 38),
+        (unknown, 26),
+    ];
+    judged.iter().find(|(given, _)| *given).map_or(Ok(()), |&(_, number)| Err(number))
+}
+
+/// Nobody can tell what form 1's margins are.
+fn margins_are_known(table: &Table) -> bool {
+    let subframes = &table.contents.subframes;
+    if table.form == 1 {
+        let zero = subframes.iter().any(|s| s.margins().contains(&0));
+        return wrongly(Wrong::CardFormOne) || (wrongly(Wrong::CardFormOneZeros) && !zero);
     }
-    if contents.parameters.is_empty() && !wrongly(Wrong::CardNoParameters) {
-        return Err(27);
+    if wrongly(Wrong::Card26FirstSubframe) {
+        return subframe_margins_are_known(&subframes[0]);
     }
-    if too_long {
-        Err(38)
-    } else {
-        Ok(())
+    if wrongly(Wrong::Card26LastSubframe) {
+        return subframes.last().is_some_and(subframe_margins_are_known);
     }
+    subframes.iter().all(subframe_margins_are_known)
+}
+
+fn subframe_margins_are_known(subframe: &Subframe) -> bool {
+    let [leading, trailing] = [subframe.leading, subframe.trailing].map(|margin| margin.is_some());
+    if wrongly(Wrong::Card26Both) {
+        return leading || trailing;
+    }
+    let never_asked = wrongly(Wrong::Card26Never);
+    (leading || never_asked || wrongly(Wrong::Card26Trailing))
+        && (trailing || never_asked || wrongly(Wrong::Card26Leading))
 }
 
 fn hand_out(frame: &[u16], words: &mut [u16]) -> Result<(), u8> {
@@ -87,8 +114,15 @@ fn hand_out(frame: &[u16], words: &mut [u16]) -> Result<(), u8> {
     Ok(())
 }
 
+/// Bits of a frame on a card; 0 where the bytes are no table or its margins
+/// are not known.
+pub fn frame_bits(table: &[u8]) -> usize {
+    let table = checking::check(table).filter(margins_are_known);
+    table.map_or(0, |table| frame_length(&table.contents))
+}
+
 /// Bits of a whole frame, margins included.
-pub fn frame_bits(contents: &Contents) -> usize {
+pub fn frame_length(contents: &Contents) -> usize {
     (0..contents.subframes.len()).map(|index| subframe_bits(contents, index)).sum()
 }
 
@@ -100,10 +134,10 @@ fn subframe_bits(contents: &Contents, index: usize) -> usize {
 /// Leading and trailing bits.
 fn margins(contents: &Contents, index: usize) -> [usize; 2] {
     let index = if wrongly(Wrong::CardFirstMargins) { 0 } else { index };
-    let subframe = &contents.subframes[index];
-    let leading = if wrongly(Wrong::CardNoLeading) { 0 } else { subframe.leading };
-    let trailing = if wrongly(Wrong::CardNoTrailing) { 0 } else { subframe.trailing };
-    [leading, trailing].map(usize::from)
+    let [leading, trailing] = contents.subframes[index].margins();
+    let leading = if wrongly(Wrong::CardNoLeading) { 0 } else { leading };
+    let trailing = if wrongly(Wrong::CardNoTrailing) { 0 } else { trailing };
+    [leading, trailing]
 }
 
 fn word_bits(contents: &Contents, index: usize) -> usize {
@@ -184,7 +218,7 @@ impl Card<'_> {
     fn first_position(&self, from: usize) -> Option<usize> {
         let last_trailing = margins(self.contents, self.starts.len() - 1)[1];
         let open_end = if wrongly(Wrong::CardOpenEnd) { last_trailing } else { 0 };
-        let last = (8 * self.stream.len()).checked_sub(frame_bits(self.contents) - open_end)?;
+        let last = (8 * self.stream.len()).checked_sub(frame_length(self.contents) - open_end)?;
         let step = if wrongly(Wrong::CardWholeBytes) { 8 } else { 1 };
         let mut positions = (from.next_multiple_of(step)..=last).step_by(step);
         if wrongly(Wrong::CardLastPosition) {
@@ -229,13 +263,33 @@ mod tests {
             let contents = streams::contents(&mut random);
             let stream = streams::drawn(&mut random, &contents).bytes();
             let card = Card::of(&contents, &stream);
-            let fitting = (8 * stream.len() + 1).saturating_sub(frame_bits(&contents));
+            let fitting = (8 * stream.len() + 1).saturating_sub(frame_length(&contents));
             let passes = |&p: &usize| comparing::first_differing(&contents, &card.frame_at(p)).is_none();
             let first = (0..fitting.min(500)).find(passes);
             if first.is_some() || fitting <= 500 {
                 assert_eq!(card.first_position(0), first);
             }
         }
+    }
+
+    /// Where the card calls give 26 a frame's bits are 0.
+    #[test]
+    fn refused_26_or_bits_known() {
+        let mut random = Random::seeded(10);
+        for turn in 0..400 {
+            let unknown = turn % 2 == 0;
+            let drawn = if unknown { streams::of_unknown_margins } else { streams::contents };
+            let contents = drawn(&mut random);
+            for form in [1, 2] {
+                let table = making::table_of_form(form, &contents);
+                let refused = form == 1 || unknown;
+                let bits = if refused { 0 } else { frame_length(&contents) };
+                assert_eq!(frame_bits(&table), bits);
+                let number = card(&table, &[], &mut []).err();
+                assert_eq!(number, Some(if refused { 26 } else { 25 }));
+            }
+        }
+        assert_eq!(frame_bits(&[]), 0);
     }
 
     #[test]

@@ -11,6 +11,7 @@ use crate::wrong::{wrongly, Wrong};
 
 /// What an accepted table holds, and where each name stands in its bytes.
 pub struct Table {
+    pub form: usize,
     pub contents: Contents,
     pub name_starts: Vec<usize>,
     pub text_start: usize,
@@ -20,7 +21,7 @@ pub struct Table {
 pub fn check(bytes: &[u8]) -> Option<Table> {
     let bytes = without_later_bytes(bytes);
     let header = Header::of(bytes)?;
-    let text_start = header.offsets[4];
+    let (form, text_start) = (header.form, header.offsets[4]);
     let parts = Parts { bytes, header };
     let subframes = parts.subframes()?;
     let (parameters, name_starts) = parts.parameters()?;
@@ -32,7 +33,7 @@ pub fn check(bytes: &[u8]) -> Option<Table> {
         require(identifiers_are_sound(&contents))?;
     }
     require(!wrongly(Wrong::B65) || shortest::length(&contents) <= limits::sheet())?;
-    Some(Table { contents, name_starts, text_start })
+    Some(Table { form, contents, name_starts, text_start })
 }
 
 fn without_later_bytes(bytes: &[u8]) -> &[u8] {
@@ -73,6 +74,7 @@ struct Header {
     samples: usize,
     components: usize,
     flags: usize,
+    form: usize,
     offsets: [usize; 5],
 }
 
@@ -88,11 +90,21 @@ impl Header {
         limit(components <= limits::components(), Wrong::B60i)?;
         let flags = get2(bytes, 12);
         limit(flags <= 1, Wrong::B62a)?;
-        limit(get2(bytes, 14) == 1, Wrong::TableForm)?;
+        let form = get2(bytes, 14);
+        require(form_is_known(form))?;
         let offsets = making::offsets(subframes, parameters, samples, components);
         offsets_are_stored(bytes, &offsets)?;
         require(offsets[4] <= bytes.len())?;
-        Some(Header { subframes, parameters, samples, components, flags, offsets })
+        Some(Header { subframes, parameters, samples, components, flags, form, offsets })
+    }
+}
+
+fn form_is_known(form: usize) -> bool {
+    match form {
+        1 => !wrongly(Wrong::TableFormOne),
+        2 => true,
+        3 if wrongly(Wrong::TableFormThree) => true,
+        _ => wrongly(Wrong::TableForm),
     }
 }
 
@@ -117,7 +129,8 @@ impl Parts<'_> {
     }
 
     fn subframes(&self) -> Option<Vec<Subframe>> {
-        (0..self.header.subframes).map(|i| subframe(self.entry(0, i, SUBFRAME_SIZE))).collect()
+        let entries = (0..self.header.subframes).map(|i| self.entry(0, i, SUBFRAME_SIZE));
+        entries.map(|entry| subframe(entry, self.header.form)).collect()
     }
 
     /// The parameters, where each one's samples, components and text follow
@@ -226,28 +239,28 @@ fn edges_are_sound(text: &[u8]) -> bool {
     text.first() != Some(&b' ') && text.last() != Some(&b' ')
 }
 
-fn subframe(entry: &[u8]) -> Option<Subframe> {
-    let [bits, words, leading, trailing] = [0, 2, 4, 6].map(|at| get2(entry, at));
+fn subframe(entry: &[u8], form: usize) -> Option<Subframe> {
+    let [bits, words] = [0, 2].map(|at| get2(entry, at));
     limit(bits >= 1, Wrong::TableNoBits)?;
     limit(words >= 1, Wrong::TableNoWords)?;
     limit(bits <= limits::word_bits(), Wrong::B60b)?;
     limit(words <= limits::words(), Wrong::B60c)?;
-    require(margin_is_sound(leading) && margin_is_sound(trailing))?;
+    let leading = margin(get2(entry, 4), form)?;
+    let trailing = margin(get2(entry, 6), form)?;
     let numerator = get8(entry, 8);
     let denominator = get4(entry, 16);
     fraction_is_sound(numerator, denominator)?;
-    Some(Subframe {
-        bits: bits as u16,
-        words: words as u16,
-        leading: leading as u16,
-        trailing: trailing as u16,
-        numerator,
-        denominator,
-    })
+    Some(Subframe { bits: bits as u16, words: words as u16, leading, trailing, numerator, denominator })
 }
 
-fn margin_is_sound(margin: usize) -> bool {
-    margin <= limits::margin() || wrongly(Wrong::B60d) || (wrongly(Wrong::B66) && margin == 65_535)
+/// Form 1 knows no unknown margin.
+fn margin(stored: usize, form: usize) -> Option<Option<u16>> {
+    if stored == usize::from(making::UNKNOWN) && (form != 1 || wrongly(Wrong::B66)) {
+        return Some(None);
+    }
+    let untested = wrongly(Wrong::B60d) || (wrongly(Wrong::TableMarginFormTwo) && form != 1);
+    require(stored <= limits::margin() || untested)?;
+    Some(Some(stored as u16))
 }
 
 /// Lowest terms, at least 1 above, 1 to 1,000,000 below, less than 1,000,000.

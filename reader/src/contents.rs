@@ -20,8 +20,9 @@ pub struct Contents {
 pub struct Subframe {
     pub bits: u16,
     pub words: u16,
-    pub leading: u16,
-    pub trailing: u16,
+    /// Leading and trailing bits; none where they are unknown.
+    pub leading: Option<u16>,
+    pub trailing: Option<u16>,
     pub numerator: u64,
     pub denominator: u32,
 }
@@ -51,6 +52,13 @@ pub struct Component {
     pub word: u16,
     pub low: u8,
     pub high: u8,
+}
+
+impl Subframe {
+    /// Leading and trailing bits, where an unknown margin counts none.
+    pub fn margins(&self) -> [usize; 2] {
+        [self.leading, self.trailing].map(|margin| usize::from(margin.unwrap_or(0)))
+    }
 }
 
 impl Component {

@@ -2,29 +2,39 @@
 
 use crate::breaks;
 use crate::contents::Contents;
+use crate::lawful;
 use crate::making;
 use crate::random::Random;
 
 /// The table of the contents, damaged in one way.
 pub fn damaged(random: &mut Random, contents: &Contents) -> Vec<u8> {
-    let mut table = making::table_bytes(contents);
+    let form = lawful::form(random);
+    let mut table = making::table_of_form(form, contents);
     if random.percent(60) {
         let mut broken = contents.clone();
         let without = contents.parameters.is_empty();
         let rule = if without { breaks::rule_of_frames } else { breaks::rule_of_tables };
         rule(random, &mut broken);
-        return making::table_bytes(&broken);
+        return making::table_of_form(form, &broken);
     }
-    match random.below(10) {
+    match random.below(12) {
         0 => length(random, &mut table),
         1 | 2 => header_field(random, &mut table),
         3 => offset(random, &mut table),
         4 => subframe_field(random, contents, &mut table),
         5 | 6 => parameter_field(random, contents, &mut table),
-        7 => sample_or_component(random, contents, &mut table),
-        8 => left_over(random, contents, &mut table),
+        7 | 8 => sample_or_component(random, contents, &mut table),
+        9 => left_over(random, contents, &mut table),
+        10 => form_and_margin(random, contents, &mut table),
         _ => any_byte(random, &mut table),
     }
+    table
+}
+
+/// The table of the contents, with another form or margin, lawful or not.
+pub fn of_other_form(random: &mut Random, contents: &Contents) -> Vec<u8> {
+    let mut table = making::table_of_form(lawful::form(random), contents);
+    form_and_margin(random, contents, &mut table);
     table
 }
 
@@ -155,6 +165,17 @@ fn left_over(random: &mut Random, contents: &Contents, table: &mut Vec<u8>) {
     put(table, 10, components, 2);
     for (part, offset) in offsets.into_iter().enumerate() {
         put(table, 16 + 4 * part, offset, 4);
+    }
+}
+
+/// A form that is known or not, and a margin at the bounds of either form.
+fn form_and_margin(random: &mut Random, contents: &Contents, table: &mut [u8]) {
+    let entry = part_start(contents, 0) + making::SUBFRAME_SIZE * random.below(contents.subframes.len());
+    if random.percent(70) {
+        put(table, entry + random.pick(&[4, 6]), *random.pick(&[0, 4095, 4096, 65_534, 65_535, 65_535]), 2);
+    }
+    if random.percent(60) {
+        put(table, 14, *random.pick(&[0, 1, 1, 2, 2, 3, 3, 257, 258]), 2);
     }
 }
 

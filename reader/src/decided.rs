@@ -6,7 +6,7 @@ use crate::draft;
 use crate::judging::judge;
 use crate::large;
 use crate::lawful;
-use crate::listings::WALL;
+use crate::listings::{wall_with, WALL};
 use crate::making;
 use crate::random::Random;
 use crate::{checking, comparing, naming, placing, reading};
@@ -184,14 +184,59 @@ fn first_differing_subframe_is_the_lowest_number() {
 }
 
 #[test]
+fn margins_known_and_unknown() {
+    let margins = |sheet: &str| {
+        judge(sheet.as_bytes())
+            .map(|contents| (contents.subframes[0].leading, contents.subframes[0].trailing))
+    };
+    assert_eq!(margins(WALL), Ok((None, None)));
+    assert_eq!(margins(&wall_with("0, ")), Ok((Some(0), None)));
+    assert_eq!(margins(&wall_with("\t,4095")), Ok((None, Some(4095))));
+    for written in ["4096,", ",4096", "65535,", ",65535"] {
+        assert_eq!(verdict(wall_with(written)), (11, 4), "{written}");
+    }
+}
+
+#[test]
+fn tables_of_each_form() {
+    let accepted = |form: u16, leading: u16, trailing: u16| {
+        let mut table =
+            judge(WALL.as_bytes()).map(|contents| making::table_bytes(&contents)).unwrap_or_default();
+        table[14..16].copy_from_slice(&form.to_le_bytes());
+        table[40..42].copy_from_slice(&leading.to_le_bytes());
+        table[42..44].copy_from_slice(&trailing.to_le_bytes());
+        checking::check(&table).is_some()
+    };
+    for margin in [0, 4095] {
+        assert!(accepted(1, margin, 0) && accepted(2, 0, margin), "{margin}");
+    }
+    for margin in [4096, 65_534] {
+        let each =
+            [accepted(1, margin, 0), accepted(1, 0, margin), accepted(2, margin, 0), accepted(2, 0, margin)];
+        assert_eq!(each, [false; 4], "{margin}");
+    }
+    assert!(!accepted(1, 65_535, 0) && !accepted(1, 0, 65_535));
+    assert!(accepted(2, 65_535, 0) && accepted(2, 0, 65_535));
+    for form in [0, 3, 4, 257, 258, 65_535] {
+        assert!(!accepted(form, 0, 0), "{form}");
+    }
+}
+
+#[test]
 fn lawful_sheets_say_what_they_were_made_from() {
     let mut random = Random::seeded(7);
     for _ in 0..2000 {
-        let contents = lawful::contents(&mut random);
+        let mut contents = lawful::contents(&mut random);
         let sheet = draft::spell(&mut random, &contents).bytes(&mut random);
         assert_eq!(judge(&sheet).as_ref(), Ok(&contents));
-        let table = making::table_bytes(&contents);
-        let checked = checking::check(&table).map(|table| table.contents);
-        assert_eq!(checked, Some(contents));
+        let checked = |table: &[u8]| checking::check(table).map(|table| table.contents);
+        let newest = making::table_bytes(&contents);
+        assert_eq!(checked(&newest).as_ref(), Some(&contents));
+        let first = making::table_of_form(1, &contents);
+        for subframe in &mut contents.subframes {
+            subframe.leading = subframe.leading.or(Some(0));
+            subframe.trailing = subframe.trailing.or(Some(0));
+        }
+        assert_eq!(checked(&first), Some(contents));
     }
 }

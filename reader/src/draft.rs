@@ -194,11 +194,9 @@ fn record(random: &mut Random, subframe: &Subframe) -> Vec<Vec<u8>> {
     ]
 }
 
-fn margin(random: &mut Random, value: u16) -> Vec<u8> {
-    if value == 0 && random.percent(60) {
-        return vec![];
-    }
-    number(random, u64::from(value))
+/// Empty where unknown.
+fn margin(random: &mut Random, margin: Option<u16>) -> Vec<u8> {
+    margin.map_or(vec![], |bits| number(random, u64::from(bits)))
 }
 
 /// One of the spellings of this fraction.

@@ -55,6 +55,7 @@ fn wall_sheet_has_25_lines_and_134_bytes() {
         table[16..36].chunks(4).map(|c| u32::from_le_bytes(c.try_into().unwrap())).collect();
     assert_eq!(offsets, [36, 56, 88, 104, 122]);
     assert_eq!(&table[122..], b"SyncPitchPCH");
+    assert_eq!((&table[14..16], &table[40..44]), (&[2, 0][..], &[255; 4][..]));
     assert!(checking::check(&table).is_some());
 }
 

@@ -119,12 +119,15 @@ pub fn record(line: &Line) -> Result<Subframe, Refusal> {
     Ok(Subframe { bits, words, leading, trailing, numerator, denominator })
 }
 
-/// Leading or trailing bits, where empty is stored as 0.
-fn margin(field: &[u8]) -> Result<u16, u8> {
+/// Leading or trailing bits, where empty says unknown.
+fn margin(field: &[u8]) -> Result<Option<u16>, u8> {
     if field.is_empty() && !wrongly(Wrong::B36b) {
-        return Ok(if wrongly(Wrong::B36a) { 65_535 } else { 0 });
+        return Ok(if wrongly(Wrong::B36a) { Some(0) } else { None });
     }
-    Ok(spelling::integer_within(field, 0, limits::margin())? as u16)
+    if field == b"65535" && wrongly(Wrong::MarginUnknownWritten) {
+        return Ok(None);
+    }
+    Ok(Some(spelling::integer_within(field, 0, limits::margin())? as u16))
 }
 
 /// The 7 fields; answers the parameter begun and whether it is an identifier.

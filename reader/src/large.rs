@@ -4,7 +4,7 @@ use crate::contents::{Component, Contents, Parameter, Sample, Subframe};
 use crate::random::Random;
 
 fn one_subframe(words: u16) -> Subframe {
-    Subframe { bits: 16, words, leading: 0, trailing: 0, numerator: 1, denominator: 1 }
+    Subframe { bits: 16, words, leading: Some(0), trailing: Some(0), numerator: 1, denominator: 1 }
 }
 
 fn empty_contents(subframes: usize, words: u16) -> Contents {
@@ -146,7 +146,7 @@ pub fn beyond_any_sheet(random: &mut Random) -> Contents {
 pub fn plain_sheet(contents: &Contents) -> Vec<u8> {
     let mut sheet = format!("HEADER:\n2.0,,x,,,x,,,True,,,{},,\n", contents.subframes.len()).into_bytes();
     let first = &contents.subframes[0];
-    sheet.extend(format!("RECORD:\n{},{},,,{}\n", first.bits, first.words, first.numerator).bytes());
+    sheet.extend(format!("RECORD:\n{},{},0,0,{}\n", first.bits, first.words, first.numerator).bytes());
     for parameter in &contents.parameters {
         put_parameter(&mut sheet, parameter);
     }

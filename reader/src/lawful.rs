@@ -62,12 +62,19 @@ fn subframe(random: &mut Random) -> Subframe {
     Subframe { bits, words, leading: margin(random), trailing: margin(random), numerator, denominator }
 }
 
-fn margin(random: &mut Random) -> u16 {
-    match random.below(5) {
-        0 => 4095,
-        1 => random.between(1, 4094) as u16,
-        _ => 0,
+/// Unknown in one of three.
+fn margin(random: &mut Random) -> Option<u16> {
+    match random.below(6) {
+        0 => Some(4095),
+        1 => Some(random.between(1, 4094) as u16),
+        2 | 3 => Some(0),
+        _ => None,
     }
+}
+
+/// A table's form, mostly the newest.
+pub fn form(random: &mut Random) -> usize {
+    *random.pick(&[1, 2, 2])
 }
 
 /// A lawful number of seconds in lowest terms.

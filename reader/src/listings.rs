@@ -40,6 +40,11 @@ pub const WALL: &str =
 1,1,0,1-12\n0\n\nFalse,,,,\n583,,,\n,,\n\n\nPARAMETER:\nPitch,PCH,,False,,,\n1,2,0,1-4\n1,4,0,2-3\n0.5\n\n\
 True,,,deg,\n,,,\n,,\n\n\n";
 
+/// The wall sheet with its two margins as given.
+pub fn wall_with(margins: &str) -> String {
+    WALL.replace("12,4,,,1.0", &format!("12,4,{margins},1.0"))
+}
+
 /// The first ones are fixed, the others drawn.
 pub fn one(random: &mut Random, index: usize) -> Listing {
     let wall = || Some(WALL.as_bytes().to_vec());

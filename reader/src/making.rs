@@ -11,6 +11,9 @@ pub const PARAMETER_SIZE: usize = 16;
 pub const SAMPLE_SIZE: usize = 8;
 pub const COMPONENT_SIZE: usize = 6;
 
+/// What stands for an unknown margin, from form 2 on.
+pub const UNKNOWN: u16 = 65_535;
+
 /// Puts the sheet's table to the front of the lent bytes and answers its
 /// length. A refusal writes nothing.
 pub fn make(sheet: &[u8], lent: &mut [u8]) -> Result<usize, Refusal> {
@@ -47,19 +50,33 @@ pub fn offsets(subframes: usize, parameters: usize, samples: usize, components: 
     [HEADER_SIZE, parameter_part, sample_part, component_part, text_part]
 }
 
+/// A new table.
 pub fn table_bytes(contents: &Contents) -> Vec<u8> {
+    let form = newest_form(contents);
     if wrongly(Wrong::B35) && contents.subframes.iter().all(|s| *s == contents.subframes[0]) {
         let subframes = contents.subframes[..1].to_vec();
-        return table_of_all(&Contents { subframes, ..contents.clone() });
+        return table_of_form(form, &Contents { subframes, ..contents.clone() });
     }
-    table_of_all(contents)
+    table_of_form(form, contents)
 }
 
-fn table_of_all(contents: &Contents) -> Vec<u8> {
+fn newest_form(contents: &Contents) -> usize {
+    let known = |s: &Subframe| s.leading.is_some() && s.trailing.is_some();
+    let by_need = wrongly(Wrong::MakeFormByNeed) && contents.subframes.iter().all(known);
+    if wrongly(Wrong::MakeFormOne) || by_need {
+        1
+    } else {
+        2
+    }
+}
+
+/// Form 1 is what was made before form 2: it has 0 for an unknown margin.
+pub fn table_of_form(form: usize, contents: &Contents) -> Vec<u8> {
     let text = text_part(&contents.parameters);
-    let mut table = header(contents, text.len());
+    let mut table = header(form, contents, text.len());
+    let unknown = if form == 1 { 0 } else { UNKNOWN };
     for subframe in &contents.subframes {
-        put_subframe(&mut table, subframe);
+        put_subframe(&mut table, subframe, unknown);
     }
     put_parameters(&mut table, &contents.parameters);
     put_samples(&mut table, &contents.parameters);
@@ -68,7 +85,7 @@ fn table_of_all(contents: &Contents) -> Vec<u8> {
     table
 }
 
-fn header(contents: &Contents, text_length: usize) -> Vec<u8> {
+fn header(form: usize, contents: &Contents, text_length: usize) -> Vec<u8> {
     let samples = contents.sample_count();
     let components = contents.component_count();
     let offsets = offsets(contents.subframes.len(), contents.parameters.len(), samples, components);
@@ -79,15 +96,16 @@ fn header(contents: &Contents, text_length: usize) -> Vec<u8> {
     put2(&mut table, samples);
     put2(&mut table, components);
     put2(&mut table, usize::from(contents.sequential));
-    put2(&mut table, 1);
+    put2(&mut table, form);
     for offset in offsets {
         put4(&mut table, offset);
     }
     table
 }
 
-fn put_subframe(table: &mut Vec<u8>, subframe: &Subframe) {
-    for value in [subframe.bits, subframe.words, subframe.leading, subframe.trailing] {
+fn put_subframe(table: &mut Vec<u8>, subframe: &Subframe, unknown: u16) {
+    let [leading, trailing] = [subframe.leading, subframe.trailing].map(|margin| margin.unwrap_or(unknown));
+    for value in [subframe.bits, subframe.words, leading, trailing] {
         table.extend(value.to_le_bytes());
     }
     table.extend(subframe.numerator.to_le_bytes());

@@ -16,12 +16,8 @@ fn digits(value: u64) -> usize {
     value.to_string().len()
 }
 
-fn margin(value: u16) -> usize {
-    if value == 0 {
-        0
-    } else {
-        digits(u64::from(value))
-    }
+fn margin(margin: Option<u16>) -> usize {
+    margin.map_or(0, |bits| digits(u64::from(bits)))
 }
 
 fn record(subframe: &Subframe) -> usize {

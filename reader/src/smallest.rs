@@ -1,15 +1,18 @@
-//! Smallest cases of the card calls, for the trial program's stored case file.
+//! Smallest cases of both forms and of the card calls, for the trial program's
+//! stored case file.
 
 use crate::cases::Case;
 use crate::judging;
-use crate::listings::WALL;
+use crate::listings::wall_with;
 use crate::making;
 
 /// Each with what it shows.
 pub type Shown = (&'static str, Case);
 
 pub fn cases() -> Vec<Shown> {
-    [found(), refused(), positions(), unlike_subframes(), from_on()].concat()
+    let forms = [made(), checked(), of_unknown_margins()].concat();
+    let cards = [found(), refused(), margins_unknown(), positions(), unlike_subframes(), from_on()].concat();
+    [forms, cards].concat()
 }
 
 const BARE: &str = "HEADER:\n2.0,,A,,,1,,,True,,,1,,\nRECORD:\n12,4,,,1.0\nNONE\n";
@@ -24,13 +27,77 @@ fn table(sheet: &str) -> Vec<u8> {
     judging::judge(sheet.as_bytes()).map_or(vec![], |contents| making::table_bytes(&contents))
 }
 
+fn of_form_1(sheet: &str) -> Vec<u8> {
+    judging::judge(sheet.as_bytes()).map_or(vec![], |contents| making::table_of_form(1, &contents))
+}
+
+/// The wall's table as its sheet is, with blank margins.
+fn blank() -> Vec<u8> {
+    table(&wall_with(","))
+}
+
+/// The wall's table, known to have no margins.
 fn wall() -> Vec<u8> {
-    table(WALL)
+    table(&wall_with("0,0"))
 }
 
 /// The wall's table with 3 leading bits and 1 trailing bit.
 fn with_margins() -> Vec<u8> {
-    table(&WALL.replace("12,4,,,1.0", "12,4,3,1,1.0"))
+    table(&wall_with("3,1"))
+}
+
+fn made() -> Vec<Shown> {
+    let make = |margins: &str| Case::Make { sheet: wall_with(margins).into_bytes(), lent: 134 };
+    vec![
+        ("form 2, margins known", make("3,1")),
+        ("form 2, leading bits unknown", make(",1")),
+        ("form 2, trailing bits unknown", make("3,")),
+        ("11: 65535 is no spelling of unknown leading bits", make("65535,")),
+        ("11: 65535 is no spelling of unknown trailing bits", make(",65535")),
+    ]
+}
+
+/// The wall's table with another form and other margins.
+fn checked() -> Vec<Shown> {
+    let check = |form: u16, leading: u16, trailing: u16| {
+        let mut table = blank();
+        table[14..16].copy_from_slice(&form.to_le_bytes());
+        table[40..44].copy_from_slice(&[leading.to_le_bytes(), trailing.to_le_bytes()].concat());
+        Case::Check { table }
+    };
+    vec![
+        ("form 1, 4,095 bits", check(1, 4095, 4095)),
+        ("18: form 1, 4,096 leading bits", check(1, 4096, 0)),
+        ("18: form 1, 4,096 trailing bits", check(1, 0, 4096)),
+        ("18: form 1, leading bits unknown", check(1, 65_535, 0)),
+        ("18: form 1, trailing bits unknown", check(1, 0, 65_535)),
+        ("form 2, 4,095 bits", check(2, 4095, 4095)),
+        ("form 2, leading bits unknown", check(2, 65_535, 0)),
+        ("form 2, trailing bits unknown", check(2, 0, 65_535)),
+        ("18: form 2, 4,096 leading bits", check(2, 4096, 65_535)),
+        ("18: form 2, 4,096 trailing bits", check(2, 65_535, 4096)),
+        ("18: form 2, 65,534 leading bits", check(2, 65_534, 65_535)),
+        ("18: form 2, 65,534 trailing bits", check(2, 65_535, 65_534)),
+        ("18: form 0", check(0, 0, 0)),
+        ("18: form 3", check(3, 0, 0)),
+        ("18: form 258, whose low byte is 2", check(258, 0, 0)),
+    ]
+}
+
+/// All but cards is as it was: by form 1 the stored file has it already.
+fn of_unknown_margins() -> Vec<Shown> {
+    let (table, frame) = (blank(), vec![583, 5, 0, 6]);
+    let (parameter, sample) = (2, 1);
+    vec![
+        ("Pitch read", Case::Read { table: table.clone(), frame: frame.clone(), parameter, sample }),
+        (
+            "Pitch placed",
+            Case::Place { table: table.clone(), frame: frame.clone(), parameter, sample, value: 63 },
+        ),
+        ("the frame compared", Case::Compare { table: table.clone(), frame }),
+        ("Pitch named", Case::Name { table: table.clone(), parameter }),
+        ("Pitch named by PCH", Case::Mnemonic { table, mnemonic: b"PCH".to_vec() }),
+    ]
 }
 
 /// The wall's frame behind 4 bits and 3 leading ones; its trailing bit ends it.
@@ -63,7 +130,7 @@ fn found() -> Vec<Shown> {
     ]
 }
 
-/// Later faults are left in: 18, 27, 38, 25, 28.
+/// Later faults are left in: 18, 27, 26, 38, 25, 28.
 fn refused() -> Vec<Shown> {
     let mut cut = wall();
     cut.pop();
@@ -79,6 +146,24 @@ fn refused() -> Vec<Shown> {
         ("25: a bit of the identifier", card(wall(), &packed(&[(582, 12), (0, 36)]), 4)),
         ("28: a word too few", card(wall(), &behind(0), 3)),
         ("28: none lent", card(wall(), &behind(0), 0)),
+    ]
+}
+
+/// In either margin, in any subframe, and always in form 1.
+fn margins_unknown() -> Vec<Shown> {
+    let first = UNLIKE.replace("8,1,2,1,1", "8,1,2,,1");
+    let second = UNLIKE.replace("5,2,0,3,1", "5,2,,3,1");
+    vec![
+        ("27: no parameters, form 1", card(of_form_1(BARE), &behind(0), 4)),
+        ("26: both margins unknown", card(blank(), &behind(0), 4)),
+        ("26: leading bits unknown", card(table(&wall_with(",1")), &REFERENCE, 4)),
+        ("26: trailing bits unknown", card(table(&wall_with("3,")), &REFERENCE, 4)),
+        ("26: form 1, margins of 0", card(of_form_1(&wall_with("0,0")), &behind(0), 4)),
+        ("26: form 1, no margin of 0", card(of_form_1(&wall_with("3,1")), &REFERENCE, 4)),
+        ("26: unknown in the first subframe alone", card(table(&first), &[0; 9], 3)),
+        ("26: unknown in the last subframe alone", card(table(&second), &[0; 9], 3)),
+        ("26 before 38", card(blank(), &[0; 65_537], 0)),
+        ("26 before 25 and 28", card(of_form_1(&wall_with("3,1")), &[], 0)),
     ]
 }
 
@@ -120,6 +205,8 @@ fn from_on() -> Vec<Shown> {
         ("from 2 to the 32, less a frame", from(wall(), u32::MAX - 47, 4)),
         ("28: a word too few", from(wall(), 48, 3)),
         ("27: no parameters", from(table(BARE), 97, 0)),
+        ("26: both margins unknown", from(blank(), 0, 4)),
+        ("26: form 1", from(of_form_1(&wall_with("0,0")), 97, 0)),
         ("18: no bytes", from(vec![], 97, 0)),
     ]
 }

@@ -34,11 +34,12 @@ impl Stream {
     pub fn put(&mut self, random: &mut Random, contents: &Contents, frame: &[u16]) {
         let mut words = frame.iter();
         for subframe in &contents.subframes {
-            self.fill(random, usize::from(subframe.leading));
+            let [leading, trailing] = subframe.margins();
+            self.fill(random, leading);
             for word in words.by_ref().take(usize::from(subframe.words)) {
                 self.bits.extend((0..subframe.bits).map(|bit| word >> bit & 1 == 1));
             }
-            self.fill(random, usize::from(subframe.trailing));
+            self.fill(random, trailing);
         }
     }
 
@@ -65,8 +66,8 @@ impl Stream {
     }
 }
 
-/// Lawful contents with parameters; mostly margins of few bits, unlike in each
-/// subframe, and identifiers that no random bits would agree with.
+/// Lawful contents with parameters and known margins; mostly these are of few
+/// bits, unlike in each subframe, and no random bits agree with an identifier.
 pub fn contents(random: &mut Random) -> Contents {
     let wide = |p: &Parameter| p.identifier.is_none() || p.samples[0].width() > 5;
     let mut contents = lawful::with_parameters(random);
@@ -76,10 +77,27 @@ pub fn contents(random: &mut Random) -> Contents {
         }
         contents = lawful::with_parameters(random);
     }
-    if random.percent(75) || carding::frame_bits(&contents) > 16_000 {
-        for subframe in &mut contents.subframes {
-            [subframe.leading, subframe.trailing] = [few(random), few(random)];
+    let all_few = random.percent(75) || carding::frame_length(&contents) > 16_000;
+    for subframe in &mut contents.subframes {
+        for margin in [&mut subframe.leading, &mut subframe.trailing] {
+            if all_few || margin.is_none() {
+                *margin = Some(few(random));
+            }
         }
+    }
+    contents
+}
+
+/// The same with unknown margins, of all subframes or of one.
+pub fn of_unknown_margins(random: &mut Random) -> Contents {
+    let mut contents = contents(random);
+    let last = contents.subframes.len() - 1;
+    let any = random.below(last + 1);
+    let within = random.pick(&[0..=last, 0..=0, last..=last, any..=any]).clone();
+    let [leading, trailing] = *random.pick(&[[true, false], [false, true], [true, true]]);
+    for subframe in &mut contents.subframes[within] {
+        subframe.leading = subframe.leading.filter(|_| !leading);
+        subframe.trailing = subframe.trailing.filter(|_| !trailing);
     }
     contents
 }
@@ -123,7 +141,7 @@ fn one_frame(random: &mut Random, contents: &Contents) -> Stream {
 /// The last trailing bit is the stream's last.
 fn ending_with_frame(random: &mut Random, contents: &Contents) -> Stream {
     let mut stream = Stream::new(random);
-    let before = 8 * random.between(1, 4) - carding::frame_bits(contents) % 8;
+    let before = 8 * random.between(1, 4) - carding::frame_length(contents) % 8;
     stream.fill(random, before);
     stream.put_agreeing(random, contents);
     stream
@@ -215,7 +233,7 @@ pub fn several_frames(random: &mut Random, contents: &Contents) -> Stream {
 
 fn noise(random: &mut Random, contents: &Contents) -> Stream {
     let mut stream = Stream::new(random);
-    let frame = carding::frame_bits(contents);
+    let frame = carding::frame_length(contents);
     let bits = match random.below(4) {
         0 => frame,
         1 => 8 * random.below(60),
@@ -229,7 +247,7 @@ fn noise(random: &mut Random, contents: &Contents) -> Stream {
 fn shorter_than_frame(random: &mut Random, contents: &Contents) -> Stream {
     let mut stream = Stream::new(random);
     stream.put_agreeing(random, contents);
-    let most = (carding::frame_bits(contents) - 1) / 8;
+    let most = (carding::frame_length(contents) - 1) / 8;
     let bytes = if random.percent(40) { 0 } else { most - random.below(most.min(3) + 1) };
     stream.bits.truncate(8 * bytes);
     stream

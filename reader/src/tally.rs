@@ -5,8 +5,9 @@ use std::collections::BTreeMap;
 use crate::cases::number_of;
 
 /// The numbers that some call gives.
-const NUMBERS: [usize; 28] =
-    [1, 2, 3, 4, 5, 6, 7, 8, 9, 10, 11, 12, 13, 14, 15, 16, 17, 18, 19, 20, 21, 22, 23, 24, 25, 27, 28, 38];
+const NUMBERS: [usize; 29] = [
+    1, 2, 3, 4, 5, 6, 7, 8, 9, 10, 11, 12, 13, 14, 15, 16, 17, 18, 19, 20, 21, 22, 23, 24, 25, 26, 27, 28, 38,
+];
 
 const KINDS: [(u8, &str); 9] = [
     (1, "make"),

@@ -145,7 +145,7 @@ switches! {
     B34c, "B34c", "surplus pairs are read, 5 at the line after them";
     B34d, "B34d", "the file's end among the pairs is 5";
     B35, "B35", "one subframe entry where all are alike";
-    B36a, "B36a", "an empty margin stored as 65,535";
+    B36a, "B36a", "an empty margin stored as 0";
     B36b, "B36b", "an empty margin is 8";
     B37a, "B37a", "a two-field line after a component line is 10";
     B37b, "B37b", "a two-field line before the first sample is 10";
@@ -225,7 +225,7 @@ switches! {
     B64d, "B64d", "table: numerator 0 accepted";
     B64e, "B64e", "table: a fraction of 1,000,000 or more accepted";
     B65, "B65", "table: 18 where no sheet of 65,536 bytes says it";
-    B66, "B66", "table: margin 65,535 accepted as empty";
+    B66, "B66", "table: margin 65,535 accepted in form 1 too";
     B67a, "B67a", "parameter number cut to 16 bits";
     B67b, "B67b", "sample number cut to 8 bits";
     B67c, "B67c", "value to place cut to 32 bits";
@@ -297,7 +297,13 @@ switches! {
     LimitTimeDigitsLess, "limit-time-digits-less", "digits before a time's point: limit one less";
     LimitTimeDigitsMore, "limit-time-digits-more", "digits before a time's point: limit one more";
     LimitAfterPointLess, "limit-after-point-less", "digits after a point: limit one less";
+    MarginUnknownWritten, "margin-unknown-written", "a margin spelled 65535 is unknown";
+    MakeFormOne, "make-form-1", "new tables are of form 1";
+    MakeFormByNeed, "make-form-by-need", "new tables are of form 1 where every margin is known";
     TableForm, "table-form", "table: the form is not tested";
+    TableFormOne, "table-form-1", "table: form 1 is 18";
+    TableFormThree, "table-form-3", "table: form 3 accepted";
+    TableMarginFormTwo, "table-margin-form-2", "table: margins of 4,096 to 65,534 accepted in form 2";
     TableTime, "table-time", "table: the time is not tested";
     TableEmptyName, "table-empty-name", "table: an empty name accepted";
     TableValue, "table-value", "table: a value without its flag accepted";
@@ -339,6 +345,16 @@ switches! {
     CardFirstMargins, "card-first-margins", "card: subframe 1's margins hold for all";
     CardFirstBits, "card-first-bits", "card: subframe 1's bits per word hold for all";
     CardNoParameters, "card-no-parameters", "card: a table without parameters finds the first frame";
+    CardFormOne, "card-form-1", "card: the margins of form 1 are known";
+    CardFormOneZeros, "card-form-1-zeros", "card: only a margin of 0 is unknown in form 1";
+    Card26Never, "card-26-never", "card: an unknown margin has 0 bits";
+    Card26Leading, "card-26-leading", "card: 26 asks the leading margins only";
+    Card26Trailing, "card-26-trailing", "card: 26 asks the trailing margins only";
+    Card26Both, "card-26-both", "card: 26 where a subframe's margins are both unknown";
+    Card26FirstSubframe, "card-26-first-subframe", "card: 26 asks subframe 1 only";
+    Card26LastSubframe, "card-26-last-subframe", "card: 26 asks the last subframe only";
+    Card26First, "card-26-first", "card: 26 before 27";
+    Card26After38, "card-26-after-38", "card: 26 after 38";
     Card38First, "card-38-first", "card: 38 before 27";
     Card25First, "card-25-first", "card: 25 before 38";
     Card28First, "card-28-first", "card: 28 before 25";
@@ -380,4 +396,8 @@ pub const UNSEEN: &[(&str, &str)] = &[
     ("B85", "form of the code"),
     ("B86", "form of the code"),
     ("B87", "form of the code; the start is seen by kinds 6 and 7 (B73f)"),
+    (
+        "R2 (bits of a frame)",
+        "no case asks for them, and the program `cards` only where 26 was not given; c/demo.c asks by form 1",
+    ),
 ];

@@ -16,7 +16,7 @@ pub fn card(t: &[u8], stream: &[u8], words: &mut [u16]) -> Carded
     card_from(t, stream, 0, words)
 }
 
-// 0, 18, 27, 38, 25 or 28.
+// 0, 18, 27, 26, 38, 25 or 28.
 pub fn card_number(carded: Carded) -> u32
     ensures { λ n. ⌜ CardNumbered carded n ⌝ }
 {
@@ -24,7 +24,7 @@ pub fn card_number(carded: Carded) -> u32
 }
 
 // How many bits a frame has: a card's next frame is looked for from the last one's position and so many bits on. 0 where the
-// bytes are no table.
+// bytes are no table, or one that does not tell its margins.
 pub fn frame_bits(t: &[u8]) -> u32
     ensures { λ n. ⌜ FrameBits (now (t .entry)) n ⌝ }
 {

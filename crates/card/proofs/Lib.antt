@@ -1,3 +1,4 @@
+pub mod MarginLaws
 pub mod SpanLaws
 pub mod Searching
 pub mod Handing

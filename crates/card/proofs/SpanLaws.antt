@@ -1,25 +1,31 @@
 -- A frame's spans over the bytes of a table. Assumes nothing.
-use mathlib.Core.Path.{_≡_, refl, ap}
+use mathlib.Core.Path.{_≡_, refl, ap, ap₂, _∙_}
 use mathlib.Core.List.{List}
 use Prim.Native.Nat.{ℕ, _+_, _-_, _*_, _≤_, _<_}
 use native.Mathlib.Numerals.{add-one}
 use native.Mathlib.Omega.{arith}
 use Rattle.lay.proofs.Below.{sum-most}
+use Rattle.model.specs.Margin.{marginBits, marginAs}
 use Rattle.model.specs.Content.{Subframe, subframe, subframes}
-use Rattle.model.specs.Forms.{sheetLimits}
+use Rattle.model.specs.Forms.{sheetLimits, limitsIn}
 use Rattle.model.specs.Frame.{frameWords}
 use Rattle.model.specs.Stored.{subframesIn, bitsIn, wordsIn, leadingIn, trailingIn, homeIn, wordIn, lowIn, highIn}
 use Rattle.model.specs.View.{subframeAt, componentAt, view}
 use Rattle.model.specs.Meaning.{ComponentLaw}
+use Rattle.model.proofs.Margins.{known-number, known-most}
 use Rattle.model.proofs.Views.{subframes-view, subframe-view}
 use Rattle.rules.specs.Ruled.{subframesOf, SubframesLaw, Ruled}
 use Rattle.rules.proofs.Widths.{word-small, high-small}
+use Rattle.card.proofs.MarginLaws.{KnownAt}
 use Rattle.carding.specs.Layout.{subframeBits, bitsBefore, wordsBegin, wordBegins, componentBegins}
 
 -- what a subframe's entry says, within its limits
 pub record Narrow (b : List ℕ) (i : ℕ) : Type 0 where
   pub bits : bitsIn b i ≤ sheetLimits .bits
   pub words : wordsIn b i ≤ sheetLimits .words
+
+-- and its margins, where they are known
+pub record MarginsNarrow (b : List ℕ) (i : ℕ) : Type 0 where
   pub leading : leadingIn b i ≤ sheetLimits .margin
   pub trailing : trailingIn b i ≤ sheetLimits .margin
 
@@ -39,17 +45,33 @@ module _ (b : List ℕ) where
   span-first = refl
 
   module _ (i : ℕ) (l : i < subframesIn b) where
-    bits-there : subframeBits (subframe (view b) i) ≡ leadingIn b i + wordsIn b i * bitsIn b i + trailingIn b i
-    unfolding subframeBits subframeAt
-    bits-there = ap subframeBits (subframe-view b i l)
+    module _ (k : KnownAt b i) where
+      bits-there : subframeBits (subframe (view b) i) ≡ leadingIn b i + wordsIn b i * bitsIn b i + trailingIn b i
+      unfolding subframeBits subframeAt
+      bits-there =
+          ap subframeBits (subframe-view b i l)
+          ∙ ap₂ (λ (m n : ℕ). m + wordsIn b i * bitsIn b i + n) (known-number (leadingIn b i) (k .leading)) (known-number (trailingIn b i) (k .trailing))
 
-    pub span-next : bitsBefore (view b) (i + 1) ≡ bitsBefore (view b) i + (leadingIn b i + wordsIn b i * bitsIn b i + trailingIn b i)
-    unfolding bitsBefore
-    span-next = rw add-one (ap (λ (n : ℕ). bitsBefore (view b) i + n) bits-there)
+      pub span-next : bitsBefore (view b) (i + 1) ≡ bitsBefore (view b) i + (leadingIn b i + wordsIn b i * bitsIn b i + trailingIn b i)
+      unfolding bitsBefore
+      span-next = rw add-one (ap (λ (n : ℕ). bitsBefore (view b) i + n) bits-there)
 
-    pub begins-there : wordsBegin (view b) i ≡ bitsBefore (view b) i + leadingIn b i
-    unfolding wordsBegin subframeAt
-    begins-there = ap (λ (f : Subframe). bitsBefore (view b) i + f .leading) (subframe-view b i l)
+      pub begins-there : wordsBegin (view b) i ≡ bitsBefore (view b) i + leadingIn b i
+      unfolding wordsBegin subframeAt
+      begins-there =
+          ap (λ (f : Subframe). bitsBefore (view b) i + marginBits (f .leading)) (subframe-view b i l)
+          ∙ ap (λ (n : ℕ). bitsBefore (view b) i + n) (known-number (leadingIn b i) (k .leading))
+
+      pub margins-there : SubframesLaw b → MarginsNarrow b i
+      unfolding subframeAt
+      margins-there r =
+          let s = r .each i l in
+          let w = r .within in
+          let a = known-most (limitsIn b) (marginAs (leadingIn b i)) (s .leading) (k .leading) in
+          let z = known-most (limitsIn b) (marginAs (trailingIn b i)) (s .trailing) (k .trailing) in
+          let m = known-number (leadingIn b i) (k .leading) in
+          let n = known-number (trailingIn b i) (k .trailing) in
+          record { leading = omega (arith, a, m, w .margin); trailing = omega (arith, z, n, w .margin) }
 
     pub bits-are : subframe (view b) i .bits ≡ bitsIn b i
     unfolding subframeAt
@@ -67,8 +89,6 @@ module _ (b : List ℕ) where
         record {
           bits = omega (arith, s .fewBits, w .bits);
           words = omega (arith, s .fewWords, w .words);
-          leading = omega (arith, s .leading, w .margin);
-          trailing = omega (arith, s .trailing, w .margin);
         }
 
   pub few-words : Ruled b → frameWords (view b) ≤ sheetLimits .words * sheetLimits .subframes

@@ -2,6 +2,7 @@
 pub mod agree;
 pub mod card;
 pub mod hand;
+pub mod margins;
 pub mod search;
 pub mod sieve;
 pub mod spans;

@@ -15,6 +15,7 @@ use Rattle.lay.proofs.Below.{sum-same, sum-const, sum-up, length-tab, getD-tab,
 use Rattle.stream.specs.Stream.{streamBit, bitsFrom}
 use Rattle.stream.proofs.Sums.{field-summed}
 use Rattle.sample.specs.Flat.{before}
+use Rattle.model.specs.Margin.{marginBits}
 use Rattle.model.specs.Content.{Content, subframe, subframes}
 use Rattle.model.specs.Samples.{wordCounts}
 use Rattle.model.specs.Frame.{frameWords, meets}
@@ -82,17 +83,17 @@ module _ (c : Content) (m : Margins) (f : List ℕ) where
   row-long i = length-flat (subframe c i .words) _ ∙ words-long i (subframe c i .words)
 
   abbrev lead : ℕ → List ℕ
-  lead i = lowBits (subframe c i .leading) (m .leading i)
+  lead i = lowBits (marginBits (subframe c i .leading)) (m .leading i)
 
   abbrev trail : ℕ → List ℕ
-  trail i = lowBits (subframe c i .trailing) (m .trailing i)
+  trail i = lowBits (marginBits (subframe c i .trailing)) (m .trailing i)
 
   subframe-long : (i : ℕ) → length (subframeStream c m f i) ≡ subframeBits (subframe c i)
   unfolding subframeStream subframeBits
   subframe-long i =
       let a = length-append (lead i) (rowBits c f i ++ trail i) in
       let b = length-append (rowBits c f i) (trail i) in
-      omega (arith, a, b, low-long (subframe c i .leading) (m .leading i), low-long (subframe c i .trailing) (m .trailing i), row-long i)
+      omega (arith, a, b, low-long (marginBits (subframe c i .leading)) (m .leading i), low-long (marginBits (subframe c i .trailing)) (m .trailing i), row-long i)
 
   stream-before : (i : ℕ) → sum i (λ k. length (subframeStream c m f k)) ≡ bitsBefore c i
   unfolding bitsBefore
@@ -118,14 +119,14 @@ module _ (c : Content) (m : Margins) (f : List ℕ) where
         ∙ getD-tab (subframe c i .bits) (bitAt (word c f i w)) 0 j o
 
     abbrev place : ℕ
-    place = subframe c i .leading + (w * subframe c i .bits + j)
+    place = marginBits (subframe c i .leading) + (w * subframe c i .bits + j)
 
     subframe-bit : getD (subframeStream c m f i) place 0 ≡ bitAt (word c f i w) j
     unfolding subframeStream
     subframe-bit =
         let k = w * subframe c i .bits + j in
         let rest = rowBits c f i ++ trail i in
-        ap (λ (a : ℕ). getD (lead i ++ rest) (a + k) 0) (sym (low-long (subframe c i .leading) (m .leading i)))
+        ap (λ (a : ℕ). getD (lead i ++ rest) (a + k) 0) (sym (low-long (marginBits (subframe c i .leading)) (m .leading i)))
         ∙ getD-append-add (lead i) rest k 0
         ∙ List·getD-append (rowBits c f i) (trail i) 0 k (omega (arith, row-long i, in-row))
         ∙ row-bit
@@ -169,7 +170,7 @@ module _ (c : Content) (m : Margins) (f : List ℕ) where
     written-bit : (i w j : ℕ) → i < subframes c → w < subframe c i .words → j < subframe c i .bits → streamBit (written c m f k front n back) (k + wordBegins c i w + j) ≡ bitAt (word c f i w) j
     unfolding written wordBegins wordsBegin
     written-bit i w j l u o =
-        let at : ℕ = subframe c i .leading + (w * subframe c i .bits + j) in
+        let at : ℕ = marginBits (subframe c i .leading) + (w * subframe c i .bits + j) in
         let q : k + wordBegins c i w + j ≡ k + (bitsBefore c i + at) = omega arith in
         packed-bit all
         (bits-append (lowBits k front) _ (bits-low k front) (bits-append (frameStream c m f) _ (stream-bits c m f) (bits-low n back)))

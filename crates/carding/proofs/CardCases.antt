@@ -14,11 +14,11 @@ use Rattle.model.specs.View.{view}
 use Rattle.model.specs.Accepts.{accepts}
 use Rattle.carding.specs.declared.carded.Carded.{Carded}
 use Rattle.table.specs.declared.reason.Reason.{Reason}
-use Rattle.table.specs.declared.reason.Reason.the-variants.{NoTable, NoParameters, LongStream, NoFrame, FewWords}
+use Rattle.table.specs.declared.reason.Reason.the-variants.{NoTable, UnknownMargin, NoParameters, LongStream, NoFrame, FewWords}
 use Rattle.carding.specs.declared.carded.Carded.the-variants.{Found, Refused}
 use Rattle.carding.specs.Layout.{frameBits, frameAt}
 use Rattle.carding.specs.Search.{positionFrom, foundFrom}
-use Rattle.carding.specs.Answer.{searched, cardedIn, cardedOf, handedFor, handedOf, longestStream, bitsOfFrame}
+use Rattle.carding.specs.Answer.{searched, marginsTold, cardedIn, cardedOf, handedFor, handedOf, longestStream, bitsOfFrame}
 
 -- ---- the search, by the position it ends at
 
@@ -65,13 +65,18 @@ module _ (b y : List ℕ) (from : ℕ) (words : List ℕ) where
     refused-27 e = answers (Refused NoParameters) (rw (h, eq-eqb (parameters (view b)) 0 e)) refl
 
     module _ (some : parameters (view b) ≡ 0 → ⊥) where
-      pub refused-38 : longestStream < length y → Answers (Refused LongStream) words
+      pub refused-26 : marginsTold b ≡ false → Answers (Refused UnknownMargin) words
       unfolding cardedOf cardedIn handedFor
-      refused-38 l = answers (Refused LongStream) (rw (h, ne-eqb (parameters (view b)) 0 some, lt-leb (length y) longestStream l)) refl
+      refused-26 u = answers (Refused UnknownMargin) (rw (h, ne-eqb (parameters (view b)) 0 some, u)) refl
 
-      pub answered : length y ≤ longestStream → {r : Carded} {o : List ℕ} → r ≡ searched (view b) y from words → o ≡ handedFor (view b) y words r → Answers r o
-      unfolding cardedOf cardedIn
-      answered l {r} e q = answers r (rw (h, ne-eqb (parameters (view b)) 0 some, le-leb (length y) longestStream l) e) q
+      module _ (told : marginsTold b ≡ true) where
+        pub refused-38 : longestStream < length y → Answers (Refused LongStream) words
+        unfolding cardedOf cardedIn handedFor
+        refused-38 l = answers (Refused LongStream) (rw (h, ne-eqb (parameters (view b)) 0 some, told, lt-leb (length y) longestStream l)) refl
+
+        pub answered : length y ≤ longestStream → {r : Carded} {o : List ℕ} → r ≡ searched (view b) y from words → o ≡ handedFor (view b) y words r → Answers r o
+        unfolding cardedOf cardedIn
+        answered l {r} e q = answers r (rw (h, ne-eqb (parameters (view b)) 0 some, told, le-leb (length y) longestStream l) e) q
 
 -- two frames that are found alike
 pub found-same : {p q n m : ℕ} → Found p n ≡ Found q m → (p ≡ q) × (n ≡ m)
@@ -87,6 +92,10 @@ pub bits-none : (b : List ℕ) → accepts b ≡ false → 0 ≡ bitsOfFrame b
 unfolding bitsOfFrame
 bits-none b h = rw h
 
-pub bits-there : (b : List ℕ) → accepts b ≡ true → frameBits (view b) ≡ bitsOfFrame b
+pub bits-untold : (b : List ℕ) → accepts b ≡ true → marginsTold b ≡ false → 0 ≡ bitsOfFrame b
 unfolding bitsOfFrame
-bits-there b h = rw h
+bits-untold b h u = rw (h, u)
+
+pub bits-there : (b : List ℕ) → accepts b ≡ true → marginsTold b ≡ true → frameBits (view b) ≡ bitsOfFrame b
+unfolding bitsOfFrame
+bits-there b h t = rw (h, t)

@@ -8,6 +8,7 @@ use Rattle.lay.specs.Bytes.{put}
 use Rattle.sample.specs.Joining.{partOf, join}
 use Rattle.sample.specs.Source.{placesFrom, places, gather}
 use Rattle.sample.specs.Flat.{sum, before, position}
+use Rattle.model.specs.Margin.{Known}
 use Rattle.model.specs.Content.{Content}
 use Rattle.model.specs.Samples.{wordCounts, piece, pieces}
 use Rattle.model.specs.Frame.{frameWords}
@@ -26,7 +27,7 @@ abbrev pub margined : Content
 margined =
     record {
       sequential = true;
-      subframes = record { bits = 12; words = 4; leading = 3; trailing = 1; numerator = 1; denominator = 1 } ∷ [];
+      subframes = record { bits = 12; words = 4; leading = Known 3; trailing = Known 1; numerator = 1; denominator = 1 } ∷ [];
       parameters = sync ∷ pitch ∷ [];
     }
 
@@ -34,7 +35,7 @@ margined =
 abbrev pub stream : List ℕ
 stream = 160 ∷ 35 ∷ 41 ∷ 0 ∷ 0 ∷ 48 ∷ 128 ∷ []
 
-pub found : cardedIn margined stream 0 (1 ∷ 2 ∷ 3 ∷ 4 ∷ 5 ∷ []) ≡ Found 4 4
+pub found : cardedIn true margined stream 0 (1 ∷ 2 ∷ 3 ∷ 4 ∷ 5 ∷ []) ≡ Found 4 4
 unfolding cardedIn searched foundFrom positionFrom wholeAt agreesAt comparedNumber comparedIn differsIn differsAt rawOf frameWords join partOf pieces piece wordCounts position before sum frameAt wordIn wordBegins wordsBegin bitsBefore subframeBits bitsFrom streamBit bitAt field
 found = refl
 
@@ -49,11 +50,11 @@ unfolding rawAt sourceAt wordStarts gather places placesFrom pieces piece wordCo
 pitch-straight = refl
 
 -- one bit later there is none: 25; and 28 with three words lent
-pub later : cardedIn margined stream 5 (1 ∷ 2 ∷ 3 ∷ 4 ∷ []) ≡ Refused NoFrame
+pub later : cardedIn true margined stream 5 (1 ∷ 2 ∷ 3 ∷ 4 ∷ []) ≡ Refused NoFrame
 unfolding cardedIn searched foundFrom positionFrom wholeAt agreesAt comparedNumber comparedIn differsIn differsAt rawOf frameWords join partOf pieces piece wordCounts position before sum frameAt wordIn wordBegins wordsBegin bitsBefore subframeBits bitsFrom streamBit bitAt field
 later = refl
 
-pub few : cardedIn margined stream 0 (1 ∷ 2 ∷ 3 ∷ []) ≡ Refused FewWords
+pub few : cardedIn true margined stream 0 (1 ∷ 2 ∷ 3 ∷ []) ≡ Refused FewWords
 unfolding cardedIn searched foundFrom positionFrom wholeAt agreesAt comparedNumber comparedIn differsIn differsAt rawOf frameWords join partOf pieces piece wordCounts position before sum frameAt wordIn wordBegins wordsBegin bitsBefore subframeBits bitsFrom streamBit bitAt field
 few = refl
 
@@ -62,7 +63,16 @@ abbrev pub trailed : Content
 trailed =
     record {
       sequential = true;
-      subframes = record { bits = 12; words = 4; leading = 0; trailing = 8; numerator = 1; denominator = 1 } ∷ [];
+      subframes = record { bits = 12; words = 4; leading = Known 0; trailing = Known 8; numerator = 1; denominator = 1 } ∷ [];
+      parameters = sync ∷ pitch ∷ [];
+    }
+
+-- no bits in the margins, "12,4,0,0,1.0"
+abbrev pub tight : Content
+tight =
+    record {
+      sequential = true;
+      subframes = record { bits = 12; words = 4; leading = Known 0; trailing = Known 0; numerator = 1; denominator = 1 } ∷ [];
       parameters = sync ∷ pitch ∷ [];
     }
 
@@ -70,7 +80,7 @@ trailed =
 abbrev pub bare : List ℕ
 bare = 71 ∷ 82 ∷ 0 ∷ 0 ∷ 96 ∷ 0 ∷ []
 
-pub cut-short : cardedIn trailed bare 0 (1 ∷ 2 ∷ 3 ∷ 4 ∷ []) ≡ Refused NoFrame
+pub cut-short : cardedIn true trailed bare 0 (1 ∷ 2 ∷ 3 ∷ 4 ∷ []) ≡ Refused NoFrame
 unfolding cardedIn searched foundFrom positionFrom wholeAt agreesAt comparedNumber comparedIn differsIn differsAt rawOf frameWords join partOf pieces piece wordCounts position before sum frameAt wordIn wordBegins wordsBegin bitsBefore subframeBits bitsFrom streamBit bitAt field
 cut-short = refl
 

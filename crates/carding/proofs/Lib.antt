@@ -3,6 +3,7 @@ pub mod Straight
 pub mod Agreeing
 pub mod Answers
 pub mod CardCases
+pub mod Untold
 pub mod Next
 pub mod Packing
 pub mod Back

@@ -19,11 +19,11 @@ use Rattle.model.specs.Accepts.{accepts}
 use Rattle.model.proofs.Views.{subframes-view, subframe-view}
 use Rattle.rules.specs.Ruled.{Ruled}
 use Rattle.table.proofs.Accepting.{accepted-ruled}
-use Rattle.table.specs.declared.reason.Reason.the-variants.{NoTable, NoParameters, LongStream, NoFrame, FewWords}
+use Rattle.table.specs.declared.reason.Reason.the-variants.{NoTable, UnknownMargin, NoParameters, LongStream, NoFrame, FewWords}
 use Rattle.carding.specs.declared.carded.Carded.the-variants.{Found, Refused}
 use Rattle.carding.specs.Layout.{subframeBits, bitsBefore, frameBits}
 use Rattle.carding.specs.Search.{positionFrom, foundFrom}
-use Rattle.carding.specs.Answer.{searched, cardedIn, cardedOf, longestStream, bitsOfFrame}
+use Rattle.carding.specs.Answer.{searched, marginsTold, cardedIn, cardedOf, longestStream, bitsOfFrame}
 use Rattle.carding.proofs.Answers.{whole-inside, found-first}
 use Rattle.carding.proofs.CardCases.{bits-there, found-same, found-not}
 
@@ -47,6 +47,7 @@ module _ (b : List ℕ) (r : Ruled b) where
 
 pub record Stands (b y : List ℕ) (from : ℕ) (words : List ℕ) (p n : ℕ) : Type 0 where
   pub accepted : accepts b ≡ true
+  pub told : marginsTold b ≡ true
   pub short : length y ≤ longestStream
   pub after : from ≤ p
   pub whole : p + bitsOfFrame b ≤ 8 * length y
@@ -58,13 +59,14 @@ module _ (b y : List ℕ) (from : ℕ) (words : List ℕ) (p n : ℕ) where
   abbrev c : Content
   c = view b
 
-  stands : accepts b ≡ true → length y ≤ longestStream → foundFrom c y from ≡ true → frameWords c ≤ length words → Found (positionFrom c y from) (frameWords c) ≡ Found p n → Stands b y from words p n
-  stands a s f w e =
+  stands : accepts b ≡ true → marginsTold b ≡ true → length y ≤ longestStream → foundFrom c y from ≡ true → frameWords c ≤ length words → Found (positionFrom c y from) (frameWords c) ≡ Found p n → Stands b y from words p n
+  stands a t s f w e =
       let q = found-first c y from f in
       let same = found-same e in
-      let bits = bits-there b a in
+      let bits = bits-there b a t in
       record {
         accepted = a;
+        told = t;
         short = s;
         after = omega (arith, q .after, same .0);
         whole = omega (arith, whole-inside c y (positionFrom c y from) (q .whole), same .0, bits);
@@ -75,13 +77,14 @@ module _ (b y : List ℕ) (from : ℕ) (words : List ℕ) (p n : ℕ) where
 
   pub found-stands : cardedOf b y from words ≡ Found p n → Stands b y from words p n
   unfolding cardedOf cardedIn searched
-  found-stands e = go (accepts b) (eqb (parameters c) 0) (leb (length y) longestStream) (foundFrom c y from) (leb (frameWords c) (length words)) refl refl refl refl e
+  found-stands e = go (accepts b) (eqb (parameters c) 0) (marginsTold b) (leb (length y) longestStream) (foundFrom c y from) (leb (frameWords c) (length words)) refl refl refl refl refl e
     where
-      go : (a z l f w : Bool) → accepts b ≡ a → leb (length y) longestStream ≡ l → foundFrom c y from ≡ f → leb (frameWords c) (length words) ≡ w
-          → cond a (cond z (Refused NoParameters) (cond l (cond f (cond w (Found (positionFrom c y from) (frameWords c)) (Refused FewWords)) (Refused NoFrame)) (Refused LongStream))) (Refused NoTable) ≡ Found p n → Stands b y from words p n
-      go true false true true true a l f w e = stands a (leb-true _ _ l) f (leb-true _ _ w) e
-      go true false true true false a l f w e = absurd (found-not e)
-      go true false true false w₀ a l f w e = absurd (found-not e)
-      go true false false f₀ w₀ a l f w e = absurd (found-not e)
-      go true true l₀ f₀ w₀ a l f w e = absurd (found-not e)
-      go false z₀ l₀ f₀ w₀ a l f w e = absurd (found-not e)
+      go : (a z t l f w : Bool) → accepts b ≡ a → marginsTold b ≡ t → leb (length y) longestStream ≡ l → foundFrom c y from ≡ f → leb (frameWords c) (length words) ≡ w
+          → cond a (cond z (Refused NoParameters) (cond t (cond l (cond f (cond w (Found (positionFrom c y from) (frameWords c)) (Refused FewWords)) (Refused NoFrame)) (Refused LongStream)) (Refused UnknownMargin))) (Refused NoTable) ≡ Found p n → Stands b y from words p n
+      go true false true true true true a t l f w e = stands a t (leb-true _ _ l) f (leb-true _ _ w) e
+      go true false true true true false a t l f w e = absurd (found-not e)
+      go true false true true false w₀ a t l f w e = absurd (found-not e)
+      go true false true false f₀ w₀ a t l f w e = absurd (found-not e)
+      go true false false l₀ f₀ w₀ a t l f w e = absurd (found-not e)
+      go true true t₀ l₀ f₀ w₀ a t l f w e = absurd (found-not e)
+      go false z₀ t₀ l₀ f₀ w₀ a t l f w e = absurd (found-not e)

@@ -13,6 +13,7 @@ use Rattle.lay.specs.Below.{sum, tab, flat}
 use Rattle.lay.proofs.Below.{length-tab, getD-tab}
 use Rattle.stream.specs.Stream.{streamBit}
 use Rattle.stream.proofs.Sums.{summed-bit}
+use Rattle.model.specs.Margin.{marginBits}
 use Rattle.model.specs.Content.{Content, subframe, subframes}
 use Rattle.carding.specs.Writing.{Margins, packed, lowBits, rowBits, subframeStream, frameStream}
 
@@ -49,10 +50,10 @@ unfolding frameStream subframeStream rowBits
 stream-bits c m f =
     bits-flat (subframes c) (subframeStream c m f)
     (λ i.
-    bits-append (lowBits (subframe c i .leading) (m .leading i)) _ (bits-low (subframe c i .leading) (m .leading i))
-    (bits-append (rowBits c f i) (lowBits (subframe c i .trailing) (m .trailing i))
+    bits-append (lowBits (marginBits (subframe c i .leading)) (m .leading i)) _ (bits-low (marginBits (subframe c i .leading)) (m .leading i))
+    (bits-append (rowBits c f i) (lowBits (marginBits (subframe c i .trailing)) (m .trailing i))
     (bits-flat (subframe c i .words) _ (λ w. bits-low (subframe c i .bits) _))
-    (bits-low (subframe c i .trailing) (m .trailing i))))
+    (bits-low (marginBits (subframe c i .trailing)) (m .trailing i))))
 
 -- ---- packed
 

@@ -15,15 +15,16 @@ use Rattle.framing.specs.Comparing.{comparedIn, comparedNumber}
 use Rattle.carding.specs.declared.carded.Carded.the-variants.{Found}
 use Rattle.carding.specs.Layout.{frameAt}
 use Rattle.carding.specs.Search.{positionFrom}
-use Rattle.carding.specs.Answer.{cardedOf, handedOf, longestStream}
+use Rattle.carding.specs.Answer.{marginsTold, cardedOf, handedOf, longestStream}
 use Rattle.carding.specs.Writing.{Margins, written}
 use Rattle.carding.proofs.CardCases.{handed-out, answered}
 use Rattle.carding.proofs.Back.{there-and-back, written-found, written-whole}
 
--- a table that the check accepts, a frame that meets it and that comparing passes, and room for its words
+-- a table that the check accepts and whose margins are known, a frame that meets it and that comparing passes, and room for its words
 pub record Writable (b f words : List ℕ) : Type 0 where
   pub accepted : accepts b ≡ true
   pub some : parameters (view b) ≡ 0 → ⊥
+  pub told : marginsTold b ≡ true
   pub fits : meets (view b) f ≡ true
   pub passes : comparedNumber (comparedIn (view b) f) ≡ 0
   pub room : frameWords (view b) ≤ length words
@@ -41,7 +42,7 @@ module _ (b f words : List ℕ) (h : Writable b f words) (m : Margins) (k front 
     answers : (p : ℕ) → p ≡ positionFrom (view b) card 0 → p ≤ k → AnsweredAt b card words p
     answers p e l =
         let s = handed-out (view b) card 0 words e (omega (arith, written-whole (view b) m f k front n back)) refl (h .room) refl in
-        let a = answered b card 0 words (h .accepted) (h .some) short (s .0) (s .1) in
+        let a = answered b card 0 words (h .accepted) (h .some) (h .told) short (s .0) (s .1) in
         record { found = a .0; handed = a .1 }
 
     -- behind any bits: there or earlier

@@ -9,13 +9,14 @@ use Rattle.bits.specs.Word.{bitAt}
 use Rattle.lay.specs.Below.{sum, tab, flat}
 use Rattle.sample.specs.Flat.{before}
 use Rattle.sample.specs.Source.{Source, gather, places}
+use Rattle.model.specs.Margin.{marginBits}
 use Rattle.model.specs.Content.{Content, Component, Subframe, subframe, subframes, parameter, sample}
 use Rattle.model.specs.Samples.{wordCounts, pieces}
 use Rattle.model.specs.Frame.{meets}
 use Rattle.stream.specs.Stream.{streamBit, bitsFrom}
 
 unfoldable pub subframeBits : Subframe → ℕ
-subframeBits s = s .leading + s .words * s .bits + s .trailing
+subframeBits s = marginBits (s .leading) + s .words * s .bits + marginBits (s .trailing)
 
 -- how many bits of a frame stand before subframe i, and how many a frame has
 unfoldable pub bitsBefore : Content → ℕ → ℕ
@@ -26,7 +27,7 @@ frameBits c = bitsBefore c (subframes c)
 
 -- where the words of subframe i begin, and where its word w does, counted from the frame's first bit
 unfoldable pub wordsBegin : Content → ℕ → ℕ
-wordsBegin c i = bitsBefore c i + subframe c i .leading
+wordsBegin c i = bitsBefore c i + marginBits (subframe c i .leading)
 
 unfoldable pub wordBegins : Content → ℕ → ℕ → ℕ
 wordBegins c i w = wordsBegin c i + w * subframe c i .bits

@@ -5,6 +5,7 @@ use lib.ListN.{length, getD}
 use Rattle.bits.specs.Word.{bitAt}
 use Rattle.lay.specs.Below.{sum, tab, flat}
 use Rattle.sample.specs.Flat.{before}
+use Rattle.model.specs.Margin.{marginBits}
 use Rattle.model.specs.Content.{Content, subframe, subframes}
 use Rattle.model.specs.Samples.{wordCounts}
 
@@ -29,7 +30,8 @@ rowBits c f i =
 -- "its leading bits, words, trailing bits"
 unfoldable pub subframeStream : Content → Margins → List ℕ → ℕ → List ℕ
 subframeStream c m f i =
-    lowBits (subframe c i .leading) (m .leading i) ++ (rowBits c f i ++ lowBits (subframe c i .trailing) (m .trailing i))
+    lowBits (marginBits (subframe c i .leading)) (m .leading i)
+    ++ (rowBits c f i ++ lowBits (marginBits (subframe c i .trailing)) (m .trailing i))
 
 unfoldable pub frameStream : Content → Margins → List ℕ → List ℕ
 frameStream c m f = flat (subframes c) (subframeStream c m f)

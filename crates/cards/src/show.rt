@@ -18,13 +18,14 @@ use table::check::opening;
 use table::reason::Reason;
 use table::reason::reason_number;
 ghost use mathlib.Core.Path.{_≡_};
+ghost use mathlib.Core.Bool.{true};
 ghost use Prim.Native.Nat.{_+_, _*_, _≤_};
 ghost use lib.ListN.{length};
 ghost use Rattle.model.specs.Frame.{frameWords};
 ghost use Rattle.model.specs.View.{view};
 ghost use Rattle.rules.specs.Ruled.{RuledBy, BasesOf};
 ghost use Rattle.carding.specs.Layout.{frameBits};
-ghost use Rattle.carding.specs.Answer.{longestStream};
+ghost use Rattle.carding.specs.Answer.{longestStream, marginsTold};
 
 // The rows of each parameter in the frame at a position.
 fn rows(t: &[u8], o: Opened, words: &[u16], position: u32, before: &[usize; SUBFRAMES])
@@ -51,7 +52,7 @@ fn heading() {
 // The frame at the first position, whose words are there, and those behind it: each is looked for behind the last bit of the
 // one before, until there is none.
 fn frames(t: &[u8], o: Opened, stream: &[u8], first: u32, words: &mut [u16])
-    requires { ⌜ (RuledBy (now t) o) × (length (now stream) ≤ longestStream) ⌝ }
+    requires { ⌜ (RuledBy (now t) o) × (marginsTold (now t) ≡ true) × (length (now stream) ≤ longestStream) ⌝ }
     requires { ⌜ first + frameBits (view (now t)) ≤ 8 * length (now stream) ⌝ }
     requires { ⌜ frameWords (view (now t)) ≤ length (now words) ⌝ }
 {
@@ -74,7 +75,7 @@ fn frames(t: &[u8], o: Opened, stream: &[u8], first: u32, words: &mut [u16])
     }
 }
 
-// What is no table is refused, 18, and a card without a frame: 27, 38 or 25.
+// What is no table is refused, 18, and a card without a frame: 27, 26, 38 or 25.
 pub fn show(t: &[u8], stream: &[u8], words: &mut [u16]) {
     let opened = opening(t);
     let Opening::Table(o) = opened else {

@@ -1,34 +1,43 @@
 -- From the sheet and the card to the value: of any bench that meets the demands. Assumes nothing.
 use mathlib.Core.Path.{_≡_, sym, ap, subst, _∙_}
 use mathlib.Core.List.{List}
-use mathlib.Core.Logic.{_↔_}
+use mathlib.Core.Logic.{_⊎_, inr, _↔_, ⊎-elim}
 use Prim.Native.Nat.{ℕ, _-_, _<_}
 use native.Mathlib.Omega.{arith}
+use borrow.Author.Tests.{eq-eqb}
+use lib.Dec.{eqb}
 use lib.ListN.{length, take}
+use Rattle.lay.proofs.Tests.{differ, not-holds}
 use Rattle.sample.specs.Component.{Place, Named}
 use Rattle.sample.specs.Joining.{join}
 use Rattle.sample.specs.Source.{bitIn}
-use Rattle.model.specs.Content.{Content, parameter}
+use Rattle.model.specs.Accepts.{accepts}
+use Rattle.model.specs.Content.{Content, parameter, parameters}
+use Rattle.model.specs.Forms.{newest, formIn}
 use Rattle.model.specs.Frame.{frameWords}
 use Rattle.model.specs.Stored.{parametersIn}
 use Rattle.model.specs.View.{view}
+use Rattle.model.proofs.Rows.{not-first}
 use Rattle.model.proofs.Views.{parameters-view}
 use Rattle.grammar.specs.Says.{Says}
 use Rattle.maker.specs.declared.make.Made.the-variants as made
+use Rattle.table.specs.Answers.{checkNumber}
 use Rattle.table.proofs.Accepting.{accepted-ruled}
 use Rattle.framing.specs.Reading.{rawOf}
 use Rattle.framing.specs.declared.read.Reading.{Reading}
 use Rattle.carding.specs.Layout.{frameAt, sourceAt, rawAt, Carries}
 use Rattle.carding.specs.Search.{FirstFrame}
-use Rattle.carding.specs.Answer.{cardedNumber}
+use Rattle.carding.specs.Answer.{SomeUnknown, cardedNumber}
 use Rattle.carding.specs.declared.carded.Carded.the-variants.{Found}
 use Rattle.carding.proofs.Back.{carried}
 use Rattle.carding.proofs.CardCases.{found-same}
+use Rattle.carding.proofs.Untold.{not-told, refused-exactly}
 use Rattle.carding.proofs.Straight.{straight, straight-bit}
 use Rattle.demands.specs.Calls.{Calls}
-use Rattle.demands.specs.Refusing.{componentsOf, firstBroken, cardRules}
+use Rattle.demands.specs.Refusing.{componentsOf, firstBroken, checkRules, cardRules}
 use Rattle.demands.specs.Demands.{HasSample, answerFor, SameAnswers, SameBits, Demands}
-use Rattle.demands.proofs.Cards.{Findable, findable}
+use Rattle.demands.proofs.Cards.{card-number, Findable, findable}
+use Rattle.demands.proofs.Unbroken.{holds-first}
 
 -- what a read of sample j of parameter q must answer, by the sheet and the card: its bits joined where they stand in the stream
 abbrev pub readFrom : Content → List ℕ → ℕ → ℕ → ℕ → Reading
@@ -45,6 +54,15 @@ pub record SameStreams (c : Content) (y : List ℕ) (p : ℕ) (z : List ℕ) (q 
   pub each : (k j : ℕ) → HasSample c k j → (x : Place) → Named (componentsOf c k j) x → sourceAt c y p x ≡ sourceAt c z q x
 
 module _ (B : Calls) (D : Demands B) where
+  -- 26, exactly "for form 1 or for an unknown margin"
+  pub margins-refused : (t y : List ℕ) (from : ℕ) (w : List ℕ) → firstBroken (checkRules t) ≡ 0 → (parameters (view t) ≡ 0 → ⊥)
+      → (cardedNumber (B .cardFrom t y from w) ≡ 26) ↔ ((formIn t ≡ 1) ⊎ SomeUnknown (view t))
+  unfolding firstBroken
+  margins-refused t y from w h some =
+      let n = D .one .cards t y from w ∙ sym (card-number t y from w) in
+      let r = refused-exactly t (holds-first (accepts t) 0 18 (omega arith) h .0) some y from w in
+      (λ e. r .0 (sym n ∙ e), λ u. n ∙ r .1 u)
+
   module _ (t y : List ℕ) (from : ℕ) (w : List ℕ) (p n : ℕ) (e : B .cardFrom t y from w ≡ Found p n) where
     unbroken : firstBroken (cardRules t y from w) ≡ 0
     unfolding cardedNumber
@@ -52,6 +70,10 @@ module _ (B : Calls) (D : Demands B) where
 
     fits : Findable t y from w
     fits = findable t y from w unbroken
+
+    -- no frame is handed out by a table that does not tell its margins
+    pub margins-known : (formIn t ≡ 1) ⊎ SomeUnknown (view t) → ⊥
+    margins-known u = not-told t (fits .accepted) u (fits .told)
 
     abbrev handed : List ℕ
     handed = take n (B .handedFrom t y from w)
@@ -105,6 +127,18 @@ module _ (B : Calls) (D : Demands B) where
   card-to-value s l n c h m y from w p k e =
       subst (CardAsSaid B (take n (B .made s l)) y from w p k) (D .two .sheet .says s l n c m h)
       (card-as-said (take n (B .made s l)) y from w p k e)
+
+  -- and where there is none: by a sheet's table a card is refused 26 exactly where the sheet leaves a margin blank
+  pub blank-refused : (s l : List ℕ) (n : ℕ) (c : Content) → Says s c → B .make s l ≡ made.Length n → (parameters c ≡ 0 → ⊥)
+      → (y : List ℕ) (from : ℕ) (w : List ℕ) → (cardedNumber (B .cardFrom (take n (B .made s l)) y from w) ≡ 26) ↔ SomeUnknown c
+  unfolding checkNumber
+  blank-refused s l n c h m some y from w =
+      let t = take n (B .made s l) in
+      let v : view t ≡ c = D .two .sheet .says s l n c m h in
+      let passes : firstBroken (checkRules t) ≡ 0 = sym (D .one .tables t) ∙ ap checkNumber (D .three .passes s l n m) in
+      let newer : formIn t ≡ 1 → ⊥ = λ e. differ (not-holds (eqb newest 1) not-first) (eq-eqb newest 1 (sym (D .two .sheet .form s l n m) ∙ e)) in
+      let r = margins-refused t y from w passes (subst (λ (d : Content). parameters d ≡ 0 → ⊥) (sym v) some) in
+      (λ e. subst SomeUnknown v (⊎-elim (λ o. absurd (newer o)) (λ u. u) (r .0 e)), λ u. r .1 (inr (subst SomeUnknown (sym v) u)))
 
   -- demand 3 over cards: two of them give equal answers for all samples exactly when their streams agree at every named bit
   module _ (t y : List ℕ) (from : ℕ) (w : List ℕ) (p n : ℕ) (e : B .cardFrom t y from w ≡ Found p n)

@@ -9,6 +9,7 @@ pub mod Only
 pub mod Determined
 pub mod EndToEnd
 pub mod CardEnd
+pub mod AsBefore
 pub mod Wall
 pub mod Useless
 pub mod UselessCards

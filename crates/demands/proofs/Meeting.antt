@@ -18,12 +18,13 @@ use Rattle.sample.specs.Joining.{join, width}
 use Rattle.sample.specs.Source.{bitIn}
 use Rattle.model.specs.Accepts.{accepts}
 use Rattle.model.specs.Content.{Content}
-use Rattle.model.specs.Forms.{newest, sheetLimits}
+use Rattle.model.specs.Forms.{newest, sheetLimits, formIn}
 use Rattle.model.specs.Frame.{meets}
 use Rattle.model.specs.Samples.{widthOf}
 use Rattle.model.specs.View.{view}
 use Rattle.model.specs.Write.{write}
 use Rattle.model.proofs.Views.{parameters-view, samples-are}
+use Rattle.model.proofs.Statements.{form-new}
 use Rattle.model.proofs.WrittenBytes.{write-bytes}
 use Rattle.gather.specs.Ruling.{Ruling, Accepted, Refused, judgeOf}
 use Rattle.gather.proofs.AcceptedLawful.{accepted-lawful}
@@ -46,13 +47,12 @@ use Rattle.framing.proofs.Answered.{answered, raw-below}
 use Rattle.framing.proofs.PlaceRead.{placing as placing-done, placed-other as other-kept, placed-read}
 use Rattle.carding.specs.Answer.{cardedNumber}
 use Rattle.carding.specs.declared.carded.Carded.the-variants.{Found}
-use Rattle.carding.proofs.CardCases.{bits-none, bits-there}
 use Rattle.carding.proofs.Next.{found-stands}
 use Rattle.demands.specs.Calls.{Calls, Kept}
-use Rattle.demands.specs.Refusing.{componentsOf, firstBroken, checkRules, cardRules}
+use Rattle.demands.specs.Refusing.{componentsOf, firstBroken, cardRules}
 use Rattle.demands.specs.Demands.{HasSample, meaning, answerFor, Fitting, SheetRefused, One, SheetTaken, NameAnswered, Two, SameAnswers, SameBits, FrameHanded, FrameFits, Three, Demands}
 use Rattle.demands.proofs.Numbers.{check-number, read-number, place-number, compare-number, name-number, mnemonic-number}
-use Rattle.demands.proofs.Cards.{card-number, card-unchanged, findable, frame-handed, front-meets, front-passes, found-findable}
+use Rattle.demands.proofs.Cards.{card-number, bits-known, bits-unknown, card-unchanged, findable, frame-handed, front-meets, front-passes, found-findable}
 use Rattle.demands.proofs.Parts.{unnamed-part, name-asked, mnemonic-asked, named-part, first-differing}
 
 -- ---- what a check that passes says
@@ -64,11 +64,6 @@ accepts-of t e = go (accepts t) e
     go : (b : Bool) → cond b checked.Table checked.NotTable ≡ checked.Table → b ≡ true
     go true q = refl
     go false q = let z : _≡_ {A = ℕ} 0 1 = cc in absurd (omega arith)
-
--- and one that does not
-unaccepted : (t : List ℕ) → (firstBroken (checkRules t) ≡ 0 → ⊥) → accepts t ≡ false
-unfolding firstBroken
-unaccepted t n = sym (refuse (accepts t) (λ h. n (rw h)))
 
 pub check-of : (t : List ℕ) → accepts t ≡ true → checkOf t ≡ checked.Table
 unfolding checkOf
@@ -161,7 +156,7 @@ module _ (B : Calls) (K : Kept B) where
         unknown = λ t m n. unnamed-part t (B .nameBy t m) (askedMnemonic (now t) m) (K .names-by t m) (λ e. n (sym (mnemonic-number (now t) m) ∙ e));
         cards = λ t y from w. ap cardedNumber (K .cards-from t y from w .0) ∙ card-number t y from w;
         card-unchanged = λ t y from w n. K .cards-from t y from w .1 ∙ card-unchanged t y from w (λ e. n (sym (card-number t y from w) ∙ e));
-        no-bits = λ t n. K .counts-bits t ∙ sym (bits-none t (unaccepted t n));
+        no-bits = λ t n. K .counts-bits t ∙ bits-unknown t n;
       }
 
   -- ---- samples
@@ -210,12 +205,18 @@ module _ (B : Calls) (K : Kept B) where
       let e : take n (B .made s l) ≡ write newest (t .content) = ap (take n) (K .makes s l .1) ∙ t .table in
       subst (λ (x : List ℕ). AreBytes x) (sym e) (write-bytes sheetLimits newest (t .content) (accepted-lawful s (t .content) (t .accepted)))
 
+  left-form : (s l : List ℕ) (n : ℕ) → B .make s l ≡ made.Length n → formIn (take n (B .made s l)) ≡ newest
+  left-form s l n h =
+      let t = made-table s l n (sym (K .makes s l .0) ∙ h) in
+      ap (λ (x : List ℕ). formIn (take n x)) (K .makes s l .1) ∙ ap formIn (t .table) ∙ form-new (t .content) (accepted-lawful s (t .content) (t .accepted))
+
   sheet : SheetTaken B
   sheet =
       record {
         taken = λ s l c h. taken-exactly s l c (says-accepted s c h);
         only = λ s l n h. let t = made-table s l n (sym (K .makes s l .0) ∙ h) in (t .content, accepted-says s (t .content) (t .accepted));
         says = λ s l n c h w. says-so s l n c h (says-accepted s c w);
+        form = λ s l n h. left-form s l n h;
         bytes = λ s l n h. left-bytes s l n h;
         later = λ s l n h. ap (drop n) (K .makes s l .1) ∙ made-table s l n (sym (K .makes s l .0) ∙ h) .later;
       }
@@ -239,7 +240,7 @@ module _ (B : Calls) (K : Kept B) where
         placed = λ t f p s v h l d. record { done = value-done t (h .passes) p s l f (h .fits) v d; back = read-back t (h .passes) p s l f (h .fits) v d; other = kept-outside t (h .passes) p s l f (h .fits) v d };
         found = frame-found;
         first-of-all = λ t y w. record { answer = K .cards t y w .0 ∙ sym (K .cards-from t y 0 w .0); words = K .cards t y w .1 ∙ sym (K .cards-from t y 0 w .1) };
-        frame-bits = λ t h. K .counts-bits t ∙ sym (bits-there t (accepts-of t (sym (K .checks t) ∙ h)));
+        frame-bits = λ t h. K .counts-bits t ∙ bits-known t h;
       }
 
   -- ---- 3

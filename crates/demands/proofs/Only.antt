@@ -20,11 +20,11 @@ use Rattle.sample.proofs.Sources.{join-agree}
 use Rattle.sample.proofs.Frames.{frame-ext}
 use Rattle.model.specs.Accepts.{accepts}
 use Rattle.model.specs.Content.{Content}
-use Rattle.model.specs.Forms.{newest, rows, known, formIn}
+use Rattle.model.specs.Forms.{newest}
 use Rattle.model.specs.Frame.{meets}
 use Rattle.model.specs.View.{view}
 use Rattle.model.specs.Write.{write}
-use Rattle.model.proofs.Statements.{accepted-writing, accepted-known}
+use Rattle.model.proofs.Statements.{accepted-writing}
 use Rattle.gather.specs.Ruling.{Ruling, Accepted, Refused, judgeOf}
 use Rattle.grammar.specs.Says.{Says}
 use Rattle.grammar.proofs.Accepted.{accepted-says}
@@ -40,7 +40,7 @@ use Rattle.framing.specs.Placing.{placeOf, placedOf}
 use Rattle.framing.specs.Comparing.{comparedOf}
 use Rattle.framing.specs.declared.read.Reading.the-variants.{Sample}
 use Rattle.demands.specs.Calls.{Calls, Kept}
-use Rattle.demands.specs.Refusing.{componentsOf, firstBroken, readRules, placeRules, nameRules, mnemonicRules, checkRules, cardRules}
+use Rattle.demands.specs.Refusing.{componentsOf, firstBroken, readRules, placeRules, nameRules, mnemonicRules, checkRules, cardRules, bitsRules}
 use Rattle.demands.specs.Demands.{answerFor, Fitting, EmptyPart, NamePart, ValuePlaced, Demands}
 use Rattle.demands.proofs.Numbers.{read-number, place-number, compare-number, name-number, mnemonic-number}
 use Rattle.demands.proofs.Parts.{name-asked, mnemonic-found, first-differing}
@@ -58,13 +58,6 @@ one-frame g h cs l j o = frame-ext g h l (λ q. go q (ℕ-discrete (bitIn g q) (
     go : (q : Place) → Dec (bitIn g q ≡ bitIn h q) → bitIn g q ≡ bitIn h q
     go q (yes e) = e
     go q (no n) = o q (λ m. n (join-agree g h cs j q m))
-
--- there is one form yet: beside a second one, demand 2 must say that a new table is of the newest
-one-form : (b : List ℕ) → accepts b ≡ true → formIn b ≡ newest
-unfolding known newest rows
-one-form b h =
-    let k = accepted-known b h in
-    omega (arith, leb-true 1 (formIn b) (rule _ k 0), leb-true (formIn b) 1 (rule _ k 1))
 
 some : (n : ℕ) → (0 < n → ⊥) → n ≡ 0
 some n h = omega arith
@@ -190,14 +183,11 @@ module _ (B : Calls) (D : Demands B) where
   -- ---- how many bits a frame has
 
   counts-bits : (t : List ℕ) → FrameBits t (B .frameBits t)
-  counts-bits t = go (decLt 0 (firstBroken (checkRules t)))
+  counts-bits t = go (decLt 0 (firstBroken (bitsRules t)))
     where
-      go : Dec (0 < firstBroken (checkRules t)) → FrameBits t (B .frameBits t)
+      go : Dec (0 < firstBroken (bitsRules t)) → FrameBits t (B .frameBits t)
       go (yes h) = D .one .no-bits t (λ e. omega arith) ∙ sym (ours-meets .one .no-bits t (λ e. omega arith))
-      go (no h) =
-          let e = checks t in
-          let a : checkOf t ≡ Table = check-of t (holds-first (accepts t) 0 18 (omega arith) (unfold firstBroken in some _ h) .0) in
-          D .two .frame-bits t (e ∙ a) ∙ sym (ours-meets .two .frame-bits t a)
+      go (no h) = D .two .frame-bits t (some _ h) ∙ sym (ours-meets .two .frame-bits t (some _ h))
 
   -- ---- making
 
@@ -211,7 +201,7 @@ module _ (B : Calls) (D : Demands B) where
           let n = length (write newest c) in
           let e = D .two .sheet .taken s l c w h in
           let a = accepted-writing (take n (B .made s l)) (D .two .sheet .bytes s l n e) (passing e) .1 in
-          let t : take n (B .made s l) ≡ write newest c = sym a ∙ ap₂ write (one-form _ (passing e)) (D .two .sheet .says s l n c e w) in (
+          let t : take n (B .made s l) ≡ write newest c = sym a ∙ ap₂ write (D .two .sheet .form s l n e) (D .two .sheet .says s l n c e w) in (
             e ∙ rw (le-leb n (length l) h),
             sym (take-append-drop n (B .made s l)) ∙ (rw (t, D .two .sheet .later s l n e, le-leb n (length l) h)),
           )

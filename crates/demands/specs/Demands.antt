@@ -13,7 +13,7 @@ use Rattle.sample.specs.Component.{Place, Named}
 use Rattle.sample.specs.Joining.{join, width}
 use Rattle.sample.specs.Source.{bitIn}
 use Rattle.model.specs.Content.{Content, parameters, parameter, subframes}
-use Rattle.model.specs.Forms.{newest}
+use Rattle.model.specs.Forms.{newest, formIn}
 use Rattle.model.specs.Frame.{frameWords, meets}
 use Rattle.model.specs.Stored.{textPart, textStartIn}
 use Rattle.model.specs.View.{view}
@@ -39,7 +39,7 @@ use Rattle.carding.specs.Answer.{cardedNumber}
 use Rattle.carding.specs.declared.carded.Carded.{Carded}
 use Rattle.carding.specs.declared.carded.Carded.the-variants.{Found}
 use Rattle.demands.specs.Calls.{Calls}
-use Rattle.demands.specs.Refusing.{componentsOf, firstBroken, checkRules, readRules, placeRules, compareRules, nameRules, mnemonicRules, cardRules}
+use Rattle.demands.specs.Refusing.{componentsOf, firstBroken, checkRules, readRules, placeRules, compareRules, nameRules, mnemonicRules, cardRules, bitsRules}
 
 -- ---- words that the demands use
 
@@ -115,7 +115,7 @@ pub record One (B : Calls) : Type 0 where
   pub unknown : (t : RefT (List ℕ)) (m : List ℕ) → (firstBroken (mnemonicRules (now t) m) ≡ 0 → ⊥) → EmptyPart t (B .nameBy t m)
   pub cards : (t y : List ℕ) (from : ℕ) (w : List ℕ) → cardedNumber (B .cardFrom t y from w) ≡ firstBroken (cardRules t y from w)
   pub card-unchanged : (t y : List ℕ) (from : ℕ) (w : List ℕ) → (firstBroken (cardRules t y from w) ≡ 0 → ⊥) → B .handedFrom t y from w ≡ w
-  pub no-bits : (t : List ℕ) → (firstBroken (checkRules t) ≡ 0 → ⊥) → B .frameBits t ≡ 0
+  pub no-bits : (t : List ℕ) → (firstBroken (bitsRules t) ≡ 0 → ⊥) → B .frameBits t ≡ 0
 
 -- ---- 2. "A sheet is accepted exactly under TP 13140E 2.0 as narrowed by the scope paper, and its table says what the sheet
 -- says. A sample read is the joining of its components, lowest first, with the two's complement sign where the sheet says
@@ -127,6 +127,8 @@ pub record SheetTaken (B : Calls) : Type 0 where
   pub taken : (s l : List ℕ) (c : Content) → Says s c → length (write newest c) ≤ length l → B .make s l ≡ made.Length (length (write newest c))
   pub only : (s l : List ℕ) (n : ℕ) → B .make s l ≡ made.Length n → (c : Content) × Says s c
   pub says : (s l : List ℕ) (n : ℕ) (c : Content) → B .make s l ≡ made.Length n → Says s c → view (take n (B .made s l)) ≡ c
+  -- 02: "Blank is now stored .. in tables of form 2": a new table is of the newest form
+  pub form : (s l : List ℕ) (n : ℕ) → B .make s l ≡ made.Length n → formIn (take n (B .made s l)) ≡ newest
   -- what is left is bytes, each below 256: 583 as one item would be viewed as 71 and 2 are
   pub bytes : (s l : List ℕ) (n : ℕ) → B .make s l ≡ made.Length n → AreBytes (take n (B .made s l))
   pub later : (s l : List ℕ) (n : ℕ) → B .make s l ≡ made.Length n → drop n (B .made s l) ≡ drop n l
@@ -168,7 +170,7 @@ pub record Two (B : Calls) : Type 0 where
       → FrameHanded (view t) y from w (B .cardFrom t y from w) (B .handedFrom t y from w)
   pub first-of-all : (t y w : List ℕ) → FromTheFirst B t y w
   -- every subframe's leading bits, words and trailing bits: behind so many the next frame is looked for
-  pub frame-bits : (t : List ℕ) → B .check t ≡ Table → B .frameBits t ≡ frameBits (view t)
+  pub frame-bits : (t : List ℕ) → firstBroken (bitsRules t) ≡ 0 → B .frameBits t ≡ frameBits (view t)
 
 -- ---- 3. "Every table made from an accepted sheet passes the table check. For a table that the check accepts, no matter who
 -- made it, and frames that fit it, every listed sample is answered, none refused, its raw value below two to the width; two

@@ -11,11 +11,12 @@ use Rattle.sample.specs.Joining.{width}
 use Rattle.model.specs.Content.{Content, parameter, parameters, sample, subframes}
 use Rattle.model.specs.Samples.{pieces}
 use Rattle.model.specs.Frame.{frameWords, wordsOk}
+use Rattle.model.specs.Forms.{formIn}
 use Rattle.model.specs.Accepts.{accepts}
 use Rattle.model.specs.View.{view}
 use Rattle.framing.specs.Comparing.{differsIn}
 use Rattle.carding.specs.Search.{soughtAt}
-use Rattle.carding.specs.Answer.{longestStream}
+use Rattle.carding.specs.Answer.{longestStream, marginsKnown}
 
 -- ---- the first rule that is broken gives the number
 
@@ -63,6 +64,10 @@ identifiersAgree c f = not (any (subframes c) (λ s. differsIn c f (s + 1)))
 -- 27, "a table without parameters"
 abbrev pub hasParameters : Content → Bool
 hasParameters c = leb 1 (parameters c)
+
+-- 26, "for form 1 or for an unknown margin", leading or trailing, of whatever subframe
+abbrev pub tellsMargins : List ℕ → Bool
+tellsMargins t = not (eqb (formIn t) 1) && marginsKnown (view t)
 
 -- 38, "Streams go up to 65,536 bytes"
 abbrev pub notLong : List ℕ → Bool
@@ -112,12 +117,17 @@ nameRules t p = rule 18 (accepts t) ∷ rule 21 (hasParameter (view t) p) ∷ []
 abbrev pub mnemonicRules : List ℕ → List ℕ → List Rule
 mnemonicRules t m = rule 18 (accepts t) ∷ rule 21 (hasMnemonic (view t) m) ∷ []
 
--- 02: "after 18, 27 .. 38 .. then 25 .. then 28"
+-- 02: "after 18, 27 .. 38 .. then 25 .. then 28", and "26, after 27"
 abbrev pub cardRules : List ℕ → List ℕ → ℕ → List ℕ → List Rule
 cardRules t y from w =
     rule 18 (accepts t)
     ∷ rule 27 (hasParameters (view t))
+    ∷ rule 26 (tellsMargins t)
     ∷ rule 38 (notLong y)
     ∷ rule 25 (someFrame (view t) y from)
     ∷ rule 28 (enoughWords (view t) w)
     ∷ []
+
+-- how many bits a frame has is told of a table by which a card can be read
+abbrev pub bitsRules : List ℕ → List Rule
+bitsRules t = rule 18 (accepts t) ∷ rule 26 (tellsMargins t) ∷ []

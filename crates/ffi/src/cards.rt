@@ -55,7 +55,7 @@ pub extern "C" fn orb_card_from(
     carded_out(card_from(table, stream, from, words))
 }
 
-// How many bits a frame has, its margins too; 0 where the bytes are no table.
+// How many bits a frame has, its margins too; 0 where the bytes are no table, or one that does not tell its margins.
 #[no_mangle]
 pub extern "C" fn orb_frame_bits(table: &[u8]) -> u32
     ensures { λ n. ⌜ FrameBitsOut (now (table .entry)) n ⌝ }

@@ -9,6 +9,7 @@ use Rattle.bits.specs.Sign.{signed}
 use Rattle.sample.specs.Joining.{partOf, join, width}
 use Rattle.sample.specs.Placing.{placeOne, place}
 use Rattle.sample.specs.Flat.{sum, before, position}
+use Rattle.model.specs.Margin.{Unknown}
 use Rattle.model.specs.Content.{Subframe, Sample}
 use Rattle.model.specs.Samples.{wordCounts, piece, pieces, widthOf}
 use Rattle.model.specs.Frame.{frameWords, wordsOk}
@@ -79,7 +80,7 @@ three =
     }
 
 abbrev fiveWords : Subframe
-fiveWords = record { bits = 12; words = 5; leading = 0; trailing = 0; numerator = 1; denominator = 1 }
+fiveWords = record { bits = 12; words = 5; leading = Unknown; trailing = Unknown; numerator = 1; denominator = 1 }
 
 -- negsuc 10 is minus eleven; parameter 1 is Sync, 2 is Pitch. Not printed in 01, but by its rules: the refusals 19, 21 and
 -- 22, word 3 too high, which no component names, and the frame that begins with 582. TP prints no words for its sample:

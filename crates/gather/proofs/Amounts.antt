@@ -1,5 +1,5 @@
 -- What a field that passes says: its number lies within the limits that its test names. Assumes nothing.
-use mathlib.Core.Path.{_≡_, refl, sym, _∙_}
+use mathlib.Core.Path.{_≡_, refl, sym, _∙_, subst}
 use mathlib.Core.Bool.{Bool, true, false, cond}
 use mathlib.Core.Logic.{inl, inr}
 use mathlib.Core.List.{List}
@@ -28,8 +28,10 @@ use Rattle.written.proofs.SecondsValue.{seconds-value}
 use Rattle.lineforms.specs.LineFields.{rangeJudged}
 use Rattle.lineforms.specs.Said.{numeratorOf, denominatorOf, lowOf, highOf}
 use Rattle.lineforms.proofs.Judging.{integer-same}
+use Rattle.model.specs.Margin.{blankMargin, marginAs}
 use Rattle.model.specs.Forms.{sheetLimits}
-use Rattle.model.specs.Meaning.{SecondsLaw}
+use Rattle.model.specs.Meaning.{SecondsLaw, MarginLaw}
+use Rattle.model.proofs.Margins.{margin-unknown, margin-known}
 
 -- ---- integers
 
@@ -40,13 +42,16 @@ module _ (f : List ℕ) where
       let s : integerOf n least most f ≡ Value (r .0) = integer-exactly n least most f (r .0) .1 (r .1) in
       rw s (r .1 .1, r .1 .2)
 
-  pub margin-amount : (most : ℕ) → numberJudged (marginOf most f) ≡ Passes → amountOf (marginOf most f) ≤ most
+  -- an empty field says unknown, another so many
+  pub margin-amount : numberJudged (marginOf (sheetLimits .margin) blankMargin f) ≡ Passes → MarginLaw sheetLimits (marginAs (amountOf (marginOf (sheetLimits .margin) blankMargin f)))
   unfolding marginOf
-  margin-amount most e = go (isEmpty f) e
+  margin-amount e = go (isEmpty f) e
     where
-      go : (t : Bool) → numberJudged (cond t (Value 0) (integerOf 6 0 most f)) ≡ Passes → amountOf (cond t (Value 0) (integerOf 6 0 most f)) ≤ most
-      go true q = omega arith
-      go false q = integer-amount 6 0 most (sym (integer-same 6 0 most f) ∙ q) .1
+      go : (t : Bool) → numberJudged (cond t (Value blankMargin) (integerOf 6 0 (sheetLimits .margin) f)) ≡ Passes → MarginLaw sheetLimits (marginAs (amountOf (cond t (Value blankMargin) (integerOf 6 0 (sheetLimits .margin) f))))
+      go true q = subst (MarginLaw sheetLimits) (sym (margin-unknown blankMargin refl)) refl
+      go false q =
+          let a = integer-amount 6 0 (sheetLimits .margin) (sym (integer-same 6 0 (sheetLimits .margin) f) ∙ q) .1 in
+          subst (MarginLaw sheetLimits) (sym (margin-known (amountOf (integerOf 6 0 (sheetLimits .margin) f)) (λ z. let w : ⊥ = omega (arith, a, z) in w))) a
 
   -- a number that counts from 1 up to those declared
   pub declared-amount : (count : ℕ) → declaredJudged count f ≡ Passes → (1 ≤ amountOf (integerOf 6 0 mostOfSix f)) × (amountOf (integerOf 6 0 mostOfSix f) ≤ count)

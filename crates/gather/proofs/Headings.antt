@@ -59,8 +59,8 @@ module _ (K : Book) (l : List ℕ) where
         fewBits = b .1;
         someWords = w .0;
         fewWords = w .1;
-        leading = margin-amount (fieldOf 2 l) (sheetLimits .margin) (q 7);
-        trailing = margin-amount (fieldOf 3 l) (sheetLimits .margin) (q 8);
+        leading = margin-amount (fieldOf 2 l) (q 7);
+        trailing = margin-amount (fieldOf 3 l) (q 8);
         seconds = seconds-amount (fieldOf 4 l) (q 9);
       }
 

@@ -30,6 +30,7 @@ use Rattle.lineforms.specs.Forms.{wordForm, countForm, eitherForm, openingForm,
 use Rattle.lineforms.specs.LineFields.{pairIndex, declaredFor, rangeJudged}
 use Rattle.model.specs.Samples.{wordCounts, piece, pieces, widthOf}
 use Rattle.model.specs.Identifiers.{namedApart, identifierOk, identifiedApart, identifies, taken}
+use Rattle.model.specs.Margin.{Unknown, marginAs}
 use Rattle.model.specs.Content.{Content}
 use Rattle.gather.specs.Book.{spread, samplesOf, componentsOf, allComponentsOf, wordsOf, bitsOf as bitsOfPairs}
 use Rattle.gather.specs.Tests.{roomForParameter, roomForSample, roomForComponent, spots, joinedTest, widthTest, apartFrom}
@@ -39,8 +40,8 @@ abbrev noneSheet : List ℕ
 noneSheet = quotedLines ("HEADER:" ∷ "2.0,A,TypeX,,,001,,,True,,,1,," ∷ "RECORD:" ∷ "12,4,,,1/1" ∷ "NONE" ∷ [])
 
 abbrev noneContent : Content
-noneContent = record { sequential = true; subframes = record { bits = 12; words = 4; leading = 0; trailing = 0; numerator = 1; denominator = 1 } ∷ []; parameters = [] }
+noneContent = record { sequential = true; subframes = record { bits = 12; words = 4; leading = Unknown; trailing = Unknown; numerator = 1; denominator = 1 } ∷ []; parameters = [] }
 
 pub none-accepted : judgeOf noneSheet ≡ Accepted noneContent
-unfolding same every gcdIn gcd lowestTerms clash clashAny twice width before position first trimStart trimEnd trim indexOf countOf holds upTo past blankLine fieldCount pieceOf fieldOf keywordOf allClean linesOf lineJudged allDigits digitsUpTo placeOf places number isMarked textJudged versionJudged emptyJudged saysTrue saysFalse truthJudged truthOf truthOrEmptyJudged integerJudged integerOf declaredJudged declaredOf overlapJudged marginOf labelJudged labelOf millionths decimalJudged decimalOf delayJudged lowBit highBit bitsJudged bitsOf componentBitsJudged componentBitsOf sourceBitsJudged isFraction isSeconds fractionOf badFraction topOf bottomOf secondsJudged secondsOf wordForm countForm eitherForm openingForm afterSampleForm formOf pairIndex declaredFor rangeJudged wordCounts piece pieces widthOf namedApart identifierOk identifiedApart identifies taken spread samplesOf componentsOf allComponentsOf wordsOf bitsOfPairs roomForParameter roomForSample roomForComponent spots joinedTest widthTest apartFrom firstBad identified run judgeOf
+unfolding same every gcdIn gcd lowestTerms clash clashAny twice width before position first trimStart trimEnd trim indexOf countOf holds upTo past blankLine fieldCount pieceOf fieldOf keywordOf allClean linesOf lineJudged allDigits digitsUpTo placeOf places number isMarked textJudged versionJudged emptyJudged saysTrue saysFalse truthJudged truthOf truthOrEmptyJudged integerJudged integerOf declaredJudged declaredOf overlapJudged marginOf marginAs labelJudged labelOf millionths decimalJudged decimalOf delayJudged lowBit highBit bitsJudged bitsOf componentBitsJudged componentBitsOf sourceBitsJudged isFraction isSeconds fractionOf badFraction topOf bottomOf secondsJudged secondsOf wordForm countForm eitherForm openingForm afterSampleForm formOf pairIndex declaredFor rangeJudged wordCounts piece pieces widthOf namedApart identifierOk identifiedApart identifies taken spread samplesOf componentsOf allComponentsOf wordsOf bitsOfPairs roomForParameter roomForSample roomForComponent spots joinedTest widthTest apartFrom firstBad identified run judgeOf
 none-accepted = refl

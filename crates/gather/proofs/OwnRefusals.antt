@@ -103,11 +103,11 @@ overlap-fair : (f : List ℕ) → Fair (overlapJudged f)
 unfolding overlapJudged
 overlap-fair f = fair-first _ (integer-fair 6 0 mostOfSix f, (fair-when (not (eqb (number 10 f) 0)) NotCarried refl, tt))
 
-margin-fair : (n : ℕ) (f : List ℕ) → Fair (numberJudged (marginOf n f))
+margin-fair : (n blank : ℕ) (f : List ℕ) → Fair (numberJudged (marginOf n blank f))
 unfolding marginOf
-margin-fair n f = go (isEmpty f)
+margin-fair n blank f = go (isEmpty f)
   where
-    go : (t : Bool) → Fair (numberJudged (cond t (Value 0) (integerOf 6 0 n f)))
+    go : (t : Bool) → Fair (numberJudged (cond t (Value blank) (integerOf 6 0 n f)))
     go true = tt
     go false = rw (integer-same 6 0 n f) (integer-fair 6 0 n f)
 
@@ -238,7 +238,7 @@ tests-fair HeaderLine K l = (
 )
 tests-fair RecordWord K l = (tt, (tt, (tt, (tt, tt))))
 tests-fair RecordLine K l =
-    (tt, (tt, (integer-fair _ _ _ _, (integer-fair _ _ _ _, (margin-fair _ _, (margin-fair _ _, (seconds-fair _, (tt, (tt, tt)))))))))
+    (tt, (tt, (integer-fair _ _ _ _, (integer-fair _ _ _ _, (margin-fair _ _ _, (margin-fair _ _ _, (seconds-fair _, (tt, (tt, tt)))))))))
 tests-fair NoneWord K l = (tt, (tt, (tt, (tt, tt))))
 tests-fair ParameterWord K l = (tt, (parameter-fair K, (tt, (tt, tt))))
 tests-fair NameLine K l = (

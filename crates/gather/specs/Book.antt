@@ -9,6 +9,7 @@ use Rattle.text.specs.Fields.{fieldOf}
 use Rattle.lineforms.specs.Said.{subframesIn, sequentialIn, pairIn, identifierIn, partIn, timeIn, signedIn, valueIn}
 use Rattle.lineforms.specs.declared.due.Form.{Form}
 use Rattle.lineforms.specs.declared.due.Form.the-variants.{Stray, Superframe, HeaderWord, HeaderLine, RecordWord, RecordLine, NoneWord, ParameterWord, NameLine, OpeningComponent, ComponentLine, TimeLine, SamplesEnd, SignedLine, RangeLine, SourceLine, LabelLine, SourceEnd, ParameterEnd}
+use Rattle.model.specs.Margin.{marginAs}
 use Rattle.model.specs.Content.{Content, Parameter, Sample, Component, Subframe, noSubframe, noParameter}
 
 -- the header's subframe count and flag; the record pairs; the whole parameters; the open one with its whole samples; the
@@ -31,8 +32,8 @@ subframeOf l =
     record {
       bits = pairIn l .bits;
       words = pairIn l .words;
-      leading = pairIn l .leading;
-      trailing = pairIn l .trailing;
+      leading = marginAs (pairIn l .leading);
+      trailing = marginAs (pairIn l .trailing);
       numerator = pairIn l .numerator;
       denominator = pairIn l .denominator;
     }

@@ -14,6 +14,7 @@ use Rattle.lines.proofs.Orders.{first-none}
 use Rattle.lineforms.specs.LineFields.{headerFields, recordFields}
 use Rattle.lineforms.specs.Said.{subframesIn, sequentialIn}
 use Rattle.gather.specs.Book.{subframeOf}
+use Rattle.model.specs.Margin.{Margin}
 use Rattle.model.specs.Content.{Subframe}
 use Rattle.model.specs.Forms.{sheetLimits}
 use Rattle.model.specs.Meaning.{SubframeLaw}
@@ -91,8 +92,8 @@ record-told l c n e =
     all-fields l (recordLine (subframeOf l)) (omega arith) n
     (integer-spelled (fieldOf 0 l) 6 1 (sheetLimits .bits) (q 0)
     & integer-spelled (fieldOf 1 l) 6 1 (sheetLimits .words) (q 1)
-    & margin-spelled (fieldOf 2 l) (sheetLimits .margin) (q 2)
-    & margin-spelled (fieldOf 3 l) (sheetLimits .margin) (q 3)
+    & margin-spelled (fieldOf 2 l) (q 2)
+    & margin-spelled (fieldOf 3 l) (q 3)
     & seconds-spelled (fieldOf 4 l) (q 4)
     & tt)
 
@@ -102,7 +103,7 @@ pub record RecordRead (l : List ℕ) (p : Subframe) : Type 0 where
   pub says : subframeOf l ≡ p
 
 -- a pair of the same numbers is the same
-same-pair : (q : Subframe) (a b c d e f : ℕ) → a ≡ q .bits → b ≡ q .words → c ≡ q .leading → d ≡ q .trailing → e ≡ q .numerator → f ≡ q .denominator
+same-pair : (q : Subframe) (a b : ℕ) (c d : Margin) (e f : ℕ) → a ≡ q .bits → b ≡ q .words → c ≡ q .leading → d ≡ q .trailing → e ≡ q .numerator → f ≡ q .denominator
     → record { bits = a; words = b; leading = c; trailing = d; numerator = e; denominator = f } ≡ q
 same-pair q a b c d e f i j k m n o = rw (i, j, k, m, n, o) refl
 
@@ -111,8 +112,8 @@ record-read l p h w =
     let r = fields-at l (recordLine p) (omega arith) w in
     let b = integer-taken (fieldOf 0 l) 6 1 (sheetLimits .bits) (p .bits) (h .someBits) (h .fewBits) (r 0 (omega arith)) in
     let d = integer-taken (fieldOf 1 l) 6 1 (sheetLimits .words) (p .words) (h .someWords) (h .fewWords) (r 1 (omega arith)) in
-    let m = margin-taken (fieldOf 2 l) (sheetLimits .margin) (p .leading) (h .leading) (r 2 (omega arith)) in
-    let n = margin-taken (fieldOf 3 l) (sheetLimits .margin) (p .trailing) (h .trailing) (r 3 (omega arith)) in
+    let m = margin-taken (fieldOf 2 l) (p .leading) (h .leading) (r 2 (omega arith)) in
+    let n = margin-taken (fieldOf 3 l) (p .trailing) (h .trailing) (r 3 (omega arith)) in
     let s = seconds-taken (fieldOf 4 l) (p .numerator) (p .denominator) (r 4 (omega arith)) in
     record {
       count = fields-count l (recordLine p) (omega arith) w;

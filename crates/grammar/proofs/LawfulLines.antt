@@ -8,12 +8,13 @@ use lib.ListN.{length, getD}
 use Rattle.lay.specs.Below.{every}
 use Rattle.text.specs.Keywords.{headerWord, recordWord, noneWord, parameterWord}
 use Rattle.spell.specs.Texts.{version}
+use Rattle.model.specs.Margin.{Margin, Known, Unknown}
 use Rattle.model.specs.Content.{Content, Component, Sample, Parameter, Subframe, noSubframe, noComponent, noSample, noParameter, subframes}
 use Rattle.model.specs.Forms.{sheetLimits}
 use Rattle.model.specs.Rules.{byteOk, textOk}
-use Rattle.model.specs.Meaning.{TextLaw, ComponentLaw, SampleLaw, SubframeLaw, ParameterLaw, Lawful}
+use Rattle.model.specs.Meaning.{MarginLaw, TextLaw, ComponentLaw, SampleLaw, SubframeLaw, ParameterLaw, Lawful}
 use Rattle.model.proofs.Meanings.{text-law}
-use Rattle.grammar.specs.Items.{exactly}
+use Rattle.grammar.specs.Items.{exactly, margin}
 use Rattle.grammar.specs.Says.{blank, word, headerLine, recordLine, recordLines, nameLine, componentLine, componentLines, sampleLines, signedLine, range, rangeLine, sourceLine, parameterLines, bodyLines, sheetLines}
 use Rattle.grammar.specs.Plain.{tellings}
 use Rattle.grammar.proofs.PlainItems.{Counted, Sayable, empty-text}
@@ -79,6 +80,10 @@ header-fine b n h =
       few = omega arith;
     }
 
+margin-sayable : (m : Margin) → MarginLaw sheetLimits m → Sayable (margin m)
+margin-sayable (Known n) h = omega (arith, h)
+margin-sayable Unknown h = tt
+
 record-fine : (p : Subframe) → SubframeLaw sheetLimits p → Fine (recordLine p)
 record-fine p h =
     record {
@@ -86,7 +91,7 @@ record-fine p h =
         six-counted (p .bits) (omega (arith, h .fewBits)),
         (
           six-counted (p .words) (omega (arith, h .fewWords)),
-          (omega (arith, h .leading), (omega (arith, h .trailing), (h .seconds, tt))),
+          (margin-sayable (p .leading) (h .leading), (margin-sayable (p .trailing) (h .trailing), (h .seconds, tt))),
         ),
       );
       few = omega arith;

@@ -11,6 +11,7 @@ use Rattle.spell.specs.BitRanges.{hyphen}
 use Rattle.written.specs.Words.{Digit, IsInteger, IsOctal}
 use Rattle.model.specs.Forms.{sheetLimits}
 use Rattle.model.specs.Meaning.{ByteLaw, SecondsLaw}
+use Rattle.model.specs.Margin.{Known, Unknown}
 use Rattle.grammar.specs.Items.{Item, exactly, text, someText, truth, truthOrNone, integer, margin, time, delay, bits, bitsOrNone, label, seconds, Text, Spelled}
 use Rattle.grammar.specs.Plain.{decimal, plainItem}
 use Rattle.grammar.proofs.Digits.{decimal-is, decimal-six, pointed-is, pointed-short}
@@ -54,7 +55,8 @@ Sayable someText = Unit {0}
 Sayable (truth b) = Unit {0}
 Sayable truthOrNone = Unit {0}
 Sayable (integer m v) = Counted m v
-Sayable (margin v) = v < 1000000
+Sayable (margin Unknown) = Unit {0}
+Sayable (margin (Known v)) = v < 1000000
 Sayable (time v) = v < 1000000000
 Sayable delay = Unit {0}
 Sayable (bits a b) = (a < 1000000) × (b < 1000000)
@@ -74,7 +76,8 @@ item-spelled (truth true) h = inl refl
 item-spelled (truth false) h = inl refl
 item-spelled truthOrNone h = inl refl
 item-spelled (integer m v) h = integer-spelled m v h
-item-spelled (margin v) h = inr (decimal-six v h)
+item-spelled (margin Unknown) h = refl
+item-spelled (margin (Known v)) h = decimal-six v h
 item-spelled (time v) h = pointed-is 2 v (omega (arith, h)) (omega (arith, h))
 item-spelled delay h = inl refl
 item-spelled (bits a b) h =
@@ -99,7 +102,8 @@ item-short (truth true) h = omega arith
 item-short (truth false) h = omega arith
 item-short truthOrNone h = omega arith
 item-short (integer m v) h = omega (arith, decimal-is 9 v (h .most) (h .most) .digits .few)
-item-short (margin v) h = omega (arith, decimal-six v h .digits .few)
+item-short (margin Unknown) h = omega arith
+item-short (margin (Known v)) h = omega (arith, decimal-six v h .digits .few)
 item-short (time v) h = omega (arith, pointed-short 2 v (omega (arith, h)) (omega (arith, h)))
 item-short delay h = omega arith
 item-short (bits a b) h =

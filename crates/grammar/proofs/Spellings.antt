@@ -1,6 +1,6 @@
 -- What each test takes is what is spelled, and what it reads is what is said: texts, truths and numbers.
 -- `..-spelled`: a field that passes is spelled so; `..-taken`: a field spelled so passes, and what is read of it. Assumes nothing.
-use mathlib.Core.Path.{_≡_, refl, sym, _∙_}
+use mathlib.Core.Path.{_≡_, refl, sym, _∙_, subst}
 use mathlib.Core.Bool.{Bool, true, false, cond, _&&_}
 use mathlib.Core.Logic.{inl, inr, ⊎-elim}
 use mathlib.Core.List.{List, []}
@@ -28,8 +28,10 @@ use Rattle.written.proofs.Integers.{integer-exactly, overlap-exactly}
 use Rattle.written.proofs.Judges.{integer-judged, declared-judged, label-judged, truth-judged}
 use Rattle.lines.specs.Line.{isClean}
 use Rattle.lineforms.proofs.Judging.{integer-same}
+use Rattle.model.specs.Margin.{Margin, Known, Unknown, blankMargin, marginAs}
 use Rattle.model.specs.Forms.{sheetLimits}
-use Rattle.model.specs.Meaning.{ByteLaw, TextLaw}
+use Rattle.model.specs.Meaning.{ByteLaw, TextLaw, MarginLaw}
+use Rattle.model.proofs.Margins.{margin-unknown, margin-known}
 use Rattle.grammar.specs.Items.{Text, Spelled, exactly, text, someText, truth, truthOrNone, integer, margin, label}
 use Rattle.grammar.specs.Says.{empty}
 use Rattle.grammar.proofs.Tidy.{Tidy}
@@ -164,21 +166,26 @@ module _ (f : List ℕ) where
   pub overlap-taken : Spelled (integer 6 0) f → overlapJudged f ≡ Passes
   overlap-taken r = overlap-exactly f .1 r
 
-  -- empty is 0
-  pub margin-spelled : (most : ℕ) → numberJudged (marginOf most f) ≡ Passes → Spelled (margin (amountOf (marginOf most f))) f
+  -- empty is unknown; the number that stands for it is not spelled so
+  pub margin-spelled : numberJudged (marginOf (sheetLimits .margin) blankMargin f) ≡ Passes → Spelled (margin (marginAs (amountOf (marginOf (sheetLimits .margin) blankMargin f)))) f
   unfolding marginOf
-  margin-spelled most e = go (isEmpty f) refl e
+  margin-spelled e = go (isEmpty f) refl e
     where
-      go : (t : Bool) → isEmpty f ≡ t → numberJudged (cond t (Value 0) (integerOf 6 0 most f)) ≡ Passes → Spelled (margin (amountOf (cond t (Value 0) (integerOf 6 0 most f)))) f
-      go true h q = inl (empty-nil f h, refl)
-      go false h q = inr (integer-spelled 6 0 most (sym (integer-same 6 0 most f) ∙ q))
+      go : (t : Bool) → isEmpty f ≡ t → numberJudged (cond t (Value blankMargin) (integerOf 6 0 (sheetLimits .margin) f)) ≡ Passes → Spelled (margin (marginAs (amountOf (cond t (Value blankMargin) (integerOf 6 0 (sheetLimits .margin) f))))) f
+      go true h q = subst (λ (m : Margin). Spelled (margin m) f) (sym (margin-unknown blankMargin refl)) (empty-nil f h)
+      go false h q =
+          let r = integer-judged f 6 0 (sheetLimits .margin) .0 (sym (integer-same 6 0 (sheetLimits .margin) f) ∙ q) in
+          let s : integerOf 6 0 (sheetLimits .margin) f ≡ Value (r .0) = integer-exactly 6 0 (sheetLimits .margin) f (r .0) .1 (r .1) in
+          let b : r .0 ≤ sheetLimits .margin = r .1 .2 in
+          rw (s, margin-known (r .0) (λ z. let w : ⊥ = omega (arith, b, z) in w)) (r .1 .0)
 
-  pub margin-taken : (most v : ℕ) → v ≤ most → Spelled (margin v) f → (numberJudged (marginOf most f) ≡ Passes) × (amountOf (marginOf most f) ≡ v)
+  pub margin-taken : (m : Margin) → MarginLaw sheetLimits m → Spelled (margin m) f
+      → (numberJudged (marginOf (sheetLimits .margin) blankMargin f) ≡ Passes) × (marginAs (amountOf (marginOf (sheetLimits .margin) blankMargin f)) ≡ m)
   unfolding marginOf
-  margin-taken most v b (inl r) = rw (nil-empty f (r .0)) (refl, sym (r .1))
-  margin-taken most v b (inr i) =
-      let s = integer-amount 6 0 most v (omega arith) b i in
-      rw (numeral-some (i .digits), s) (refl, refl)
+  margin-taken Unknown b r = rw (nil-empty f r) (refl, margin-unknown blankMargin refl)
+  margin-taken (Known v) b i =
+      let s = integer-amount 6 0 (sheetLimits .margin) v (omega arith) b i in
+      rw (numeral-some (i .digits), s) (refl, margin-known v (λ z. let w : ⊥ = omega (arith, b, z) in w))
 
   pub label-spelled : labelJudged f ≡ Passes → Spelled label f
   label-spelled e = label-judged f .0 e

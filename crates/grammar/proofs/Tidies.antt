@@ -19,6 +19,7 @@ use Rattle.written.specs.Words.{Numeral, Marked, IsDecimal, IsRange, IsSeconds,
 use Rattle.written.proofs.Marks.{holds-without}
 use Rattle.gather.proofs.Rows.{Each}
 use Rattle.gather.proofs.FieldBytes.{clean-each}
+use Rattle.model.specs.Margin.{Known, Unknown}
 use Rattle.grammar.specs.Items.{Item, exactly, text, someText, truth, truthOrNone, integer, margin, time, delay, bits, bitsOrNone, label, seconds, Text, Spelled}
 use Rattle.grammar.proofs.Tidy.{Tidy}
 
@@ -148,7 +149,8 @@ spelled-tidy someText f s = text-tidy f (s .1)
 spelled-tidy (truth b) f s = truth-tidy f b s
 spelled-tidy truthOrNone f s = ⊎-elim (none-tidy f) (λ w. truth-tidy f (w .0) (w .1)) s
 spelled-tidy (integer n v) f s = numeral-tidy 10 _ f (omega arith) (s .digits)
-spelled-tidy (margin v) f s = ⊎-elim (λ w. none-tidy f (w .0)) (λ w. numeral-tidy 10 _ f (omega arith) (w .digits)) s
+spelled-tidy (margin Unknown) f s = none-tidy f s
+spelled-tidy (margin (Known v)) f s = numeral-tidy 10 _ f (omega arith) (s .digits)
 spelled-tidy (time v) f s = decimal-tidy 3 f v s
 spelled-tidy delay f s = ⊎-elim (none-tidy f) (λ w. decimal-tidy 6 f (w .0) (w .1)) s
 spelled-tidy (bits a b) f s = range-tidy f a b s

@@ -6,6 +6,7 @@ use mathlib.Core.Bool.{Bool}
 use mathlib.Core.List.{List, []}
 use lib.ListN.{length, getD}
 use Rattle.written.specs.Words.{IsInteger, IsOctal, IsDecimal, IsRange, IsRangeWithin, IsTruth, SaysSeconds}
+use Rattle.model.specs.Margin.{Margin, Known, Unknown}
 use Rattle.model.specs.Meaning.{ByteLaw}
 
 -- Items with a value are kept, the others are read and not kept.
@@ -21,7 +22,7 @@ pub data Item : Type 0 where
   -- a number in 1 to so many digits
   integer : ℕ → ℕ → Item
   -- leading or trailing bits
-  margin : ℕ → Item
+  margin : Margin → Item
   -- a time offset in millionths; a delay
   time : ℕ → Item
   delay : Item
@@ -48,8 +49,9 @@ Spelled (truth b) f = IsTruth f b
 Spelled truthOrNone f = (f ≡ []) ⊎ ((b : Bool) × IsTruth f b)
 -- "Integer: 1 to 6 digits; an identifier's value 1 to 10."
 Spelled (integer n v) f = IsInteger n f v
--- "Leading and trailing may be empty; empty is stored as 0."
-Spelled (margin v) f = ((f ≡ []) × (v ≡ 0)) ⊎ IsInteger 6 f v
+-- "Leading and trailing may be empty"; the standard: "Should be left blank if unknown."
+Spelled (margin Unknown) f = f ≡ []
+Spelled (margin (Known v)) f = IsInteger 6 f v
 -- "Time offset: a decimal, 1 to 3 digits before the point, kept in millionths. Delay: empty or a decimal with up to 6 digits
 -- before the point."
 Spelled (time v) f = IsDecimal 3 f v

@@ -12,6 +12,7 @@ use Rattle.spell.specs.Decimals.{point, million}
 use Rattle.spell.specs.BitRanges.{hyphen}
 use Rattle.spell.specs.Durations.{slash}
 use Rattle.model.specs.Content.{Content, Parameter}
+use Rattle.model.specs.Margin.{Known, Unknown}
 use Rattle.grammar.specs.Items.{Item, exactly, text, someText, truth, truthOrNone, integer, margin, time, delay, bits, bitsOrNone, label, seconds}
 use Rattle.grammar.specs.Says.{Told, plain, sheetLines}
 
@@ -51,7 +52,8 @@ plainItem (truth true) = quoted "True"
 plainItem (truth false) = quoted "False"
 plainItem truthOrNone = []
 plainItem (integer n v) = decimal v
-plainItem (margin v) = decimal v
+plainItem (margin Unknown) = []
+plainItem (margin (Known v)) = decimal v
 plainItem (time v) = pointed v
 plainItem delay = []
 plainItem (bits a b) = decimal a ++ (hyphen ∷ decimal b)

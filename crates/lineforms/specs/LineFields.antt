@@ -13,6 +13,7 @@ use Rattle.spell.specs.Integers.{mostOfSix, integerJudged, integerOf, declaredJ
 use Rattle.spell.specs.Decimals.{decimalJudged, delayJudged}
 use Rattle.spell.specs.BitRanges.{componentBitsJudged, sourceBitsJudged}
 use Rattle.spell.specs.Durations.{secondsJudged}
+use Rattle.model.specs.Margin.{blankMargin}
 use Rattle.model.specs.Forms.{sheetLimits}
 
 -- text that may be empty, and text that may not
@@ -55,8 +56,8 @@ abbrev pub recordFields : List ℕ → List Judged
 recordFields l =
     integerJudged 6 1 (sheetLimits .bits) (fieldOf 0 l)
     ∷ integerJudged 6 1 (sheetLimits .words) (fieldOf 1 l)
-    ∷ numberJudged (marginOf (sheetLimits .margin) (fieldOf 2 l))
-    ∷ numberJudged (marginOf (sheetLimits .margin) (fieldOf 3 l))
+    ∷ numberJudged (marginOf (sheetLimits .margin) blankMargin (fieldOf 2 l))
+    ∷ numberJudged (marginOf (sheetLimits .margin) blankMargin (fieldOf 3 l))
     ∷ secondsJudged (fieldOf 4 l)
     ∷ []
 

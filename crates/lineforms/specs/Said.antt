@@ -13,6 +13,7 @@ use Rattle.spell.specs.declared.answers.Bits.{Bits}
 use Rattle.spell.specs.declared.answers.Bits.the-variants as bits
 use Rattle.spell.specs.declared.answers.Seconds.{Seconds}
 use Rattle.spell.specs.declared.answers.Seconds.the-variants as seconds
+use Rattle.model.specs.Margin.{blankMargin}
 use Rattle.model.specs.Forms.{sheetLimits}
 use Rattle.lineforms.specs.LineFields.{subframeIn}
 use Rattle.lineforms.specs.declared.said.Pair.{Pair}
@@ -39,8 +40,8 @@ pairIn l =
     record {
       bits = amountOf (integerOf 6 1 (sheetLimits .bits) (fieldOf 0 l));
       words = amountOf (integerOf 6 1 (sheetLimits .words) (fieldOf 1 l));
-      leading = amountOf (marginOf (sheetLimits .margin) (fieldOf 2 l));
-      trailing = amountOf (marginOf (sheetLimits .margin) (fieldOf 3 l));
+      leading = amountOf (marginOf (sheetLimits .margin) blankMargin (fieldOf 2 l));
+      trailing = amountOf (marginOf (sheetLimits .margin) blankMargin (fieldOf 3 l));
       numerator = numeratorOf (secondsOf (fieldOf 4 l));
       denominator = denominatorOf (secondsOf (fieldOf 4 l));
     }

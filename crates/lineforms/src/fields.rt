@@ -1,6 +1,7 @@
 // The tests of a line's fields, left to right: one function for each kind of line.
 use crate::said::subframe_in;
 use model::limits::BITS;
+use model::limits::BLANK_MARGIN;
 use model::limits::MARGIN;
 use model::limits::SUBFRAMES;
 use model::limits::TEXT;
@@ -93,8 +94,14 @@ pub fn record_fields(line: &[u8]) -> Judged
 {
     let a = integer_at(line, 0, 6, 1, BITS as u64);
     let b = or_else(a, integer_at(line, 1, 6, 1, WORDS as u64));
-    let c = or_else(b, number_judged(margin(field_of(line, 2), MARGIN as u64)));
-    let d = or_else(c, number_judged(margin(field_of(line, 3), MARGIN as u64)));
+    let c = or_else(
+        b,
+        number_judged(margin(field_of(line, 2), MARGIN as u64, BLANK_MARGIN as u64)),
+    );
+    let d = or_else(
+        c,
+        number_judged(margin(field_of(line, 3), MARGIN as u64, BLANK_MARGIN as u64)),
+    );
     or_else(d, seconds_judged(seconds(field_of(line, 4))))
 }
 

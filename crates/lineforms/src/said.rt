@@ -1,5 +1,6 @@
 // What a line says, once its tests pass.
 use model::limits::BITS;
+use model::limits::BLANK_MARGIN;
 use model::limits::MARGIN;
 use model::limits::SUBFRAMES;
 use model::limits::VALUE;
@@ -80,8 +81,8 @@ pub fn pair_in(line: &[u8]) -> Pair
     Pair {
         bits: amount(integer(field_of(line, 0), 6, 1, BITS as u64)),
         words: amount(integer(field_of(line, 1), 6, 1, WORDS as u64)),
-        leading: amount(margin(field_of(line, 2), MARGIN as u64)),
-        trailing: amount(margin(field_of(line, 3), MARGIN as u64)),
+        leading: amount(margin(field_of(line, 2), MARGIN as u64, BLANK_MARGIN as u64)),
+        trailing: amount(margin(field_of(line, 3), MARGIN as u64, BLANK_MARGIN as u64)),
         numerator: numerator_of(x),
         denominator: denominator_of(x),
     }

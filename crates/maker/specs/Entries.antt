@@ -2,6 +2,7 @@
 use Prim.Native.Nat.{ℕ, _+_, _*_}
 use mathlib.Core.Bool.{Bool}
 use mathlib.Core.List.{List, [], _∷_}
+use Rattle.model.specs.Margin.{marginAs}
 use Rattle.model.specs.Content.{Subframe, Component}
 use Rattle.model.specs.Forms.{newest}
 use Rattle.model.specs.Write.{bit}
@@ -41,8 +42,8 @@ saidSubframe p =
     record {
       bits = p .bits;
       words = p .words;
-      leading = p .leading;
-      trailing = p .trailing;
+      leading = marginAs (p .leading);
+      trailing = marginAs (p .trailing);
       numerator = p .numerator;
       denominator = p .denominator;
     }

@@ -2,8 +2,9 @@
 use Prim.Native.Nat.{ℕ, zero, suc, _+_, _-_, _≤_, _<_}
 use mathlib.Core.Path.{_≡_, refl, sym, ap₂, subst}
 use mathlib.Core.List.{List}
-use mathlib.Core.Bool.{true, _||_}
+use mathlib.Core.Bool.{Bool, true, false, _||_, not, true≢false}
 use native.Mathlib.Omega.{arith}
+use borrow.Author.Needs.{needs}
 use borrow.Author.Tests.{leb-true, eqb-true, ltb-true}
 use lib.Dec.{eqb}
 use lib.ListN.{length, getD}
@@ -18,7 +19,7 @@ use Rattle.model.specs.Limits.{Limits}
 use Rattle.model.specs.Items as item
 use Rattle.model.specs.Items.{subframePart, parts, partsOfAll, entryItems}
 use Rattle.model.specs.Forms.{Row, rows, row, known, newest, newestRow, layoutOf, limitsOf, formIn}
-use Rattle.model.specs.Sound.{offsetMost, headMost, entryMost, tidyRow, formRow, roomyRow, readableRow, withinRow, codedRow, sound, allSound, Within, Sound}
+use Rattle.model.specs.Sound.{offsetMost, headMost, entryMost, tidyRow, formRow, roomyRow, readableRow, withinRow, codedRow, marginRow, sound, allSound, Within, Sound}
 
 -- what holds of each of the parts, one by one, holds of every part
 abbrev pub EachPart : (ℕ → Type 0) → ℕ → ℕ → Type 0
@@ -45,7 +46,7 @@ each-form P h f k =
     subst P e (each-from P 1 (length rows) h (f - 1) (omega arith))
 
 all-sound : allSound ≡ true
-unfolding allSound rows sound tidyRow formRow roomyRow readableRow withinRow codedRow every startBy plain long offsetMost headMost entryMost
+unfolding allSound rows sound tidyRow formRow roomyRow readableRow withinRow codedRow marginRow every startBy plain long offsetMost headMost entryMost
 all-sound = refl
 
 row-test : (f : ℕ) → known f ≡ true → sound f (row f) ≡ true
@@ -58,6 +59,10 @@ row-test f h =
     let s = all-below (length rows) (λ k. sound (k + 1) (getD rows k newestRow)) all-sound (f - 1) l in
     rw z at s
 
+not-or : (a b : Bool) → (not a || b) ≡ true → a ≡ true → b ≡ true
+not-or true b h e = h
+not-or false b h e = absurd (true≢false (sym e))
+
 within-law : (m n : Limits) → withinRow m n ≡ true → Within m n
 unfolding withinRow
 within-law m n h =
@@ -66,21 +71,22 @@ within-law m n h =
       bits = leb-true _ _ (rule _ h 1);
       words = leb-true _ _ (rule _ h 2);
       margin = leb-true _ _ (rule _ h 3);
-      parameters = leb-true _ _ (rule _ h 4);
-      samplesEach = leb-true _ _ (rule _ h 5);
-      samples = leb-true _ _ (rule _ h 6);
-      componentsEach = leb-true _ _ (rule _ h 7);
-      components = leb-true _ _ (rule _ h 8);
-      width = leb-true _ _ (rule _ h 9);
-      text = leb-true _ _ (rule _ h 10);
-      time = leb-true _ _ (rule _ h 11);
-      denominator = leb-true _ _ (rule _ h 12);
-      seconds = leb-true _ _ (rule _ h 13);
-      value = leb-true _ _ (rule _ h 14);
+      blank = not-or (m .blank) (n .blank) (rule _ h 4);
+      parameters = leb-true _ _ (rule _ h 5);
+      samplesEach = leb-true _ _ (rule _ h 6);
+      samples = leb-true _ _ (rule _ h 7);
+      componentsEach = leb-true _ _ (rule _ h 8);
+      components = leb-true _ _ (rule _ h 9);
+      width = leb-true _ _ (rule _ h 10);
+      text = leb-true _ _ (rule _ h 11);
+      time = leb-true _ _ (rule _ h 12);
+      denominator = leb-true _ _ (rule _ h 13);
+      seconds = leb-true _ _ (rule _ h 14);
+      value = leb-true _ _ (rule _ h 15);
     }
 
 sound-law : (f : ℕ) (R : Row) → sound f R ≡ true → Sound f (R .layout) (R .limits)
-unfolding sound tidyRow formRow roomyRow readableRow
+unfolding sound tidyRow formRow roomyRow readableRow marginRow
 sound-law f R h =
     record {
       many = eqb-true _ _ (rule _ (rule _ h 0) 0);
@@ -102,6 +108,7 @@ sound-law f R h =
       plainSample = rule _ (rule _ h 3) 5;
       plainComponent = rule _ (rule _ h 3) 6;
       within = within-law _ _ (rule _ h 4);
+      apart = ltb-true _ _ (rule _ h 6);
     }
 
 pub known-sound : (f : ℕ) → known f ≡ true → Sound f (layoutOf f) (limitsOf f)
@@ -115,6 +122,16 @@ known-newest = refl
 pub newest-row : row newest ≡ newestRow
 unfolding row newest rows
 newest-row = refl
+
+-- new tables are not of form 1
+pub not-first : not (eqb newest 1) ≡ true
+unfolding newest rows
+not-first = refl
+
+-- form 1 alone can not say that a margin is unknown
+pub blank-said : (f : ℕ) → known f ≡ true → limitsOf f .blank ≡ not (eqb f 1)
+unfolding row rows newest
+blank-said = each-form (λ (f : ℕ). limitsOf f .blank ≡ not (eqb f 1)) (search needs)
 
 -- the form stands where every layout has it
 pub form-said : (f : ℕ) (L : Layout) (m : Limits) → Sound f L m → (b : List ℕ) → headIn L b item.form ≡ formIn b

@@ -2,7 +2,7 @@
 -- holds at most. A form is one row. A new form is one row more; that it is sound (Sound) is computed (proofs/Rows), and no law, rule or
 -- call knows which forms there are.
 use Prim.Native.Nat.{ℕ, _-_}
-use mathlib.Core.Bool.{Bool}
+use mathlib.Core.Bool.{Bool, true, false}
 use mathlib.Core.List.{List, [], _∷_}
 use lib.Dec.{leb}
 use lib.ListN.{length, getD}
@@ -73,14 +73,16 @@ component1 = slot item.home 2 ∷ slot item.word 2 ∷ slot item.low 1 ∷ slot 
 
 -- "S 1 to 32; bits per word 1 to 16; words 1 to 1,024; leading and trailing 0 to 4,095; 512 parameters; 64 samples each,
 -- 4,096 in all; 8 components a sample, 4,096 in all; width 32; .. identifier value 4,294,967,295"; text "64 for name,
--- mnemonic and identification"; "time at most 999,999,999"; "from 1 to 1,000,000 below, and less than 1,000,000"
-abbrev pub limits1 : Limits
-limits1 =
+-- mnemonic and identification"; "time at most 999,999,999"; "from 1 to 1,000,000 below, and less than 1,000,000". With or
+-- without unknown margins
+abbrev pub limitsWith : Bool → Limits
+limitsWith blank =
     record {
       subframes = 32;
       bits = 16;
       words = 1024;
       margin = 4095;
+      blank = blank;
       parameters = 512;
       samplesEach = 64;
       samples = 4096;
@@ -94,6 +96,10 @@ limits1 =
       value = 4294967295;
     }
 
+-- no margin is unknown
+abbrev pub limits1 : Limits
+limits1 = limitsWith false
+
 abbrev pub form1 : Row
 form1 =
     record {
@@ -101,14 +107,23 @@ form1 =
       limits = limits1;
     }
 
+-- ---- form 2: form 1 but for the margins
+
+-- 02, request 2: "Blank is now stored as 65,535, in tables of form 2, and may stand in either margin."
+abbrev pub limits2 : Limits
+limits2 = limitsWith true
+
+abbrev pub form2 : Row
+form2 = record { layout = form1 .layout; limits = limits2 }
+
 -- ---- all forms, from form 1 on
 
 unfoldable pub rows : List Row
-rows = form1 ∷ []
+rows = form1 ∷ form2 ∷ []
 
 -- the last row: new tables are written in its form
 abbrev pub newestRow : Row
-newestRow = form1
+newestRow = form2
 
 unfoldable pub newest : ℕ
 newest = length rows

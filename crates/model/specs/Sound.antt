@@ -2,7 +2,7 @@
 -- row that has an item twice, too few bytes for its limits, its form elsewhere, or more than the code holds, is refused.
 use Prim.Native.Nat.{ℕ, _+_, _*_, _≤_, _<_}
 use mathlib.Core.Path.{_≡_}
-use mathlib.Core.Bool.{Bool, true, _||_, cond}
+use mathlib.Core.Bool.{Bool, true, _||_, not, cond}
 use mathlib.Core.List.{List, [], _∷_}
 use lib.Dec.{eqb, leb, ltb}
 use lib.ListN.{length, getD}
@@ -10,6 +10,7 @@ use Rattle.lay.specs.Below.{every, all}
 use Rattle.lay.specs.Slots.{has, wideOf, offsetOf, tidy, plain, long, allPlain, roomFor, RoomFor}
 use Rattle.lay.specs.Layout.{Layout, offset, slotsOf, manyParts, endBy}
 use Rattle.sample.specs.Promise.{mostListed}
+use Rattle.model.specs.Margin.{blankMargin}
 use Rattle.model.specs.Limits.{Limits}
 use Rattle.model.specs.Items as item
 use Rattle.model.specs.Items.{subframePart, parameterPart, samplePart, componentPart, parts, partsOfAll, headItems, entryItems}
@@ -47,11 +48,15 @@ headMost f L m =
     ∷ offsetMost L m componentPart
     ∷ []
 
+-- a margin as a number
+abbrev pub marginMost : Limits → ℕ
+marginMost m = cond (m .blank) blankMargin (m .margin)
+
 -- each part's
 unfoldable pub entryMost : Limits → ℕ → List ℕ
 entryMost m p =
     getD
-    ((m .bits ∷ m .words ∷ m .margin ∷ m .margin ∷ m .seconds * m .denominator ∷ m .denominator ∷ [])
+    ((m .bits ∷ m .words ∷ marginMost m ∷ marginMost m ∷ m .seconds * m .denominator ∷ m .denominator ∷ [])
     ∷ (m .text ∷ m .text ∷ m .text ∷ 3 ∷ mostText m ∷ m .samples ∷ m .samplesEach ∷ m .value ∷ [])
     ∷ (m .time ∷ m .components ∷ m .componentsEach ∷ [])
     ∷ (m .subframes ∷ m .words ∷ m .bits ∷ m .bits ∷ [])
@@ -96,6 +101,10 @@ readableRow L m =
     ∷ allPlain (slotsOf L componentPart)
     ∷ [])
 
+-- no known margin is stored as an unknown one
+unfoldable pub marginRow : Limits → Bool
+marginRow m = ltb (m .margin) blankMargin
+
 -- the code holds a sample in 32 bits and a word in 16, and keeps a sample's components in a list
 unfoldable pub codedRow : Limits → Bool
 codedRow m = every (leb (m .width) 32 ∷ leb (m .bits) 16 ∷ leb (m .componentsEach) mostListed ∷ [])
@@ -108,6 +117,7 @@ withinRow m n =
     ∷ leb (m .bits) (n .bits)
     ∷ leb (m .words) (n .words)
     ∷ leb (m .margin) (n .margin)
+    ∷ (not (m .blank) || n .blank)
     ∷ leb (m .parameters) (n .parameters)
     ∷ leb (m .samplesEach) (n .samplesEach)
     ∷ leb (m .samples) (n .samples)
@@ -130,6 +140,7 @@ sound f R =
     ∷ readableRow (R .layout) (R .limits)
     ∷ withinRow (R .limits) sheetLimits
     ∷ codedRow (R .limits)
+    ∷ marginRow (R .limits)
     ∷ [])
 
 unfoldable pub allSound : Bool
@@ -142,6 +153,7 @@ pub record Within (m n : Limits) : Type 0 where
   pub bits : m .bits ≤ n .bits
   pub words : m .words ≤ n .words
   pub margin : m .margin ≤ n .margin
+  pub blank : m .blank ≡ true → n .blank ≡ true
   pub parameters : m .parameters ≤ n .parameters
   pub samplesEach : m .samplesEach ≤ n .samplesEach
   pub samples : m .samples ≤ n .samples
@@ -171,3 +183,4 @@ pub record Sound (f : ℕ) (L : Layout) (m : Limits) : Type 0 where
   pub plainSample : allPlain (slotsOf L samplePart) ≡ true
   pub plainComponent : allPlain (slotsOf L componentPart) ≡ true
   pub within : Within m sheetLimits
+  pub apart : m .margin < blankMargin

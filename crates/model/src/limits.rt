@@ -8,6 +8,9 @@ pub const WORDS: usize = 1024;
 
 pub const MARGIN: usize = 4095;
 
+// What stands for a margin that is unknown.
+pub const BLANK_MARGIN: usize = 65535;
+
 pub const PARAMETERS: usize = 512;
 
 pub const SAMPLES_EACH: usize = 64;

@@ -6,6 +6,7 @@ use mathlib.Core.List.{List, [], _∷_, _++_}
 use Prim.Native.Nat.{ℕ, _-_}
 use Prim.Native.String.{String, _++_ as _<>_}
 use lib.ListN.{take, drop}
+use Rattle.model.specs.Margin.{Unknown, marginAs}
 use Rattle.model.specs.Content.{Content, Parameter}
 use Rattle.lay.specs.Bytes.{same}
 use Rattle.lay.specs.Below.{every}
@@ -84,7 +85,7 @@ abbrev lastingContent : ℕ → ℕ → Content
 lastingContent top bottom =
     record {
       sequential = true;
-      subframes = record { bits = 12; words = 4; leading = 0; trailing = 0; numerator = top; denominator = bottom } ∷ [];
+      subframes = record { bits = 12; words = 4; leading = Unknown; trailing = Unknown; numerator = top; denominator = bottom } ∷ [];
       parameters = [];
     }
 
@@ -256,23 +257,23 @@ both-hold [] ys h k = k
 both-hold (x ∷ xs) ys h k = (h .0, both-hold xs ys (h .1) k)
 
 ends-hold : AllHold ends
-unfolding same every gcdIn gcd lowestTerms clash clashAny twice width before position first trimStart trimEnd trim indexOf countOf holds upTo past blankLine fieldCount pieceOf fieldOf keywordOf allClean linesOf lineJudged allDigits digitsUpTo placeOf places number isMarked textJudged versionJudged emptyJudged saysTrue saysFalse truthJudged truthOf truthOrEmptyJudged integerJudged integerOf declaredJudged declaredOf overlapJudged marginOf labelJudged labelOf millionths decimalJudged decimalOf delayJudged lowBit highBit bitsJudged bitsOf componentBitsJudged componentBitsOf sourceBitsJudged isFraction isSeconds fractionOf badFraction topOf bottomOf secondsJudged secondsOf wordForm countForm eitherForm openingForm afterSampleForm formOf pairIndex declaredFor rangeJudged wordCounts piece pieces widthOf namedApart identifierOk identifiedApart identifies taken spread samplesOf componentsOf allComponentsOf wordsOf bitsOfPairs roomForParameter roomForSample roomForComponent spots joinedTest widthTest apartFrom firstBad identified run judgeOf
+unfolding same every gcdIn gcd lowestTerms clash clashAny twice width before position first trimStart trimEnd trim indexOf countOf holds upTo past blankLine fieldCount pieceOf fieldOf keywordOf allClean linesOf lineJudged allDigits digitsUpTo placeOf places number isMarked textJudged versionJudged emptyJudged saysTrue saysFalse truthJudged truthOf truthOrEmptyJudged integerJudged integerOf declaredJudged declaredOf overlapJudged marginOf marginAs labelJudged labelOf millionths decimalJudged decimalOf delayJudged lowBit highBit bitsJudged bitsOf componentBitsJudged componentBitsOf sourceBitsJudged isFraction isSeconds fractionOf badFraction topOf bottomOf secondsJudged secondsOf wordForm countForm eitherForm openingForm afterSampleForm formOf pairIndex declaredFor rangeJudged wordCounts piece pieces widthOf namedApart identifierOk identifiedApart identifies taken spread samplesOf componentsOf allComponentsOf wordsOf bitsOfPairs roomForParameter roomForSample roomForComponent spots joinedTest widthTest apartFrom firstBad identified run judgeOf
 ends-hold = (joined-taken, (refl, (refl, (refl, (refl, (refl, (refl, (refl, (refl, (refl, (refl, tt)))))))))))
 
 orders-hold : AllHold orders
-unfolding same every gcdIn gcd lowestTerms clash clashAny twice width before position first trimStart trimEnd trim indexOf countOf holds upTo past blankLine fieldCount pieceOf fieldOf keywordOf allClean linesOf lineJudged allDigits digitsUpTo placeOf places number isMarked textJudged versionJudged emptyJudged saysTrue saysFalse truthJudged truthOf truthOrEmptyJudged integerJudged integerOf declaredJudged declaredOf overlapJudged marginOf labelJudged labelOf millionths decimalJudged decimalOf delayJudged lowBit highBit bitsJudged bitsOf componentBitsJudged componentBitsOf sourceBitsJudged isFraction isSeconds fractionOf badFraction topOf bottomOf secondsJudged secondsOf wordForm countForm eitherForm openingForm afterSampleForm formOf pairIndex declaredFor rangeJudged wordCounts piece pieces widthOf namedApart identifierOk identifiedApart identifies taken spread samplesOf componentsOf allComponentsOf wordsOf bitsOfPairs roomForParameter roomForSample roomForComponent spots joinedTest widthTest apartFrom firstBad identified run judgeOf
+unfolding same every gcdIn gcd lowestTerms clash clashAny twice width before position first trimStart trimEnd trim indexOf countOf holds upTo past blankLine fieldCount pieceOf fieldOf keywordOf allClean linesOf lineJudged allDigits digitsUpTo placeOf places number isMarked textJudged versionJudged emptyJudged saysTrue saysFalse truthJudged truthOf truthOrEmptyJudged integerJudged integerOf declaredJudged declaredOf overlapJudged marginOf marginAs labelJudged labelOf millionths decimalJudged decimalOf delayJudged lowBit highBit bitsJudged bitsOf componentBitsJudged componentBitsOf sourceBitsJudged isFraction isSeconds fractionOf badFraction topOf bottomOf secondsJudged secondsOf wordForm countForm eitherForm openingForm afterSampleForm formOf pairIndex declaredFor rangeJudged wordCounts piece pieces widthOf namedApart identifierOk identifiedApart identifies taken spread samplesOf componentsOf allComponentsOf wordsOf bitsOfPairs roomForParameter roomForSample roomForComponent spots joinedTest widthTest apartFrom firstBad identified run judgeOf
 orders-hold = (refl, (refl, (refl, (refl, (refl, (refl, (refl, (refl, (refl, (refl, (refl, (refl, (refl, (refl, (refl, (refl, tt))))))))))))))))
 
 samples-hold : AllHold samples
-unfolding same every gcdIn gcd lowestTerms clash clashAny twice width before position first trimStart trimEnd trim indexOf countOf holds upTo past blankLine fieldCount pieceOf fieldOf keywordOf allClean linesOf lineJudged allDigits digitsUpTo placeOf places number isMarked textJudged versionJudged emptyJudged saysTrue saysFalse truthJudged truthOf truthOrEmptyJudged integerJudged integerOf declaredJudged declaredOf overlapJudged marginOf labelJudged labelOf millionths decimalJudged decimalOf delayJudged lowBit highBit bitsJudged bitsOf componentBitsJudged componentBitsOf sourceBitsJudged isFraction isSeconds fractionOf badFraction topOf bottomOf secondsJudged secondsOf wordForm countForm eitherForm openingForm afterSampleForm formOf pairIndex declaredFor rangeJudged wordCounts piece pieces widthOf namedApart identifierOk identifiedApart identifies taken spread samplesOf componentsOf allComponentsOf wordsOf bitsOfPairs roomForParameter roomForSample roomForComponent spots joinedTest widthTest apartFrom firstBad identified run judgeOf
+unfolding same every gcdIn gcd lowestTerms clash clashAny twice width before position first trimStart trimEnd trim indexOf countOf holds upTo past blankLine fieldCount pieceOf fieldOf keywordOf allClean linesOf lineJudged allDigits digitsUpTo placeOf places number isMarked textJudged versionJudged emptyJudged saysTrue saysFalse truthJudged truthOf truthOrEmptyJudged integerJudged integerOf declaredJudged declaredOf overlapJudged marginOf marginAs labelJudged labelOf millionths decimalJudged decimalOf delayJudged lowBit highBit bitsJudged bitsOf componentBitsJudged componentBitsOf sourceBitsJudged isFraction isSeconds fractionOf badFraction topOf bottomOf secondsJudged secondsOf wordForm countForm eitherForm openingForm afterSampleForm formOf pairIndex declaredFor rangeJudged wordCounts piece pieces widthOf namedApart identifierOk identifiedApart identifies taken spread samplesOf componentsOf allComponentsOf wordsOf bitsOfPairs roomForParameter roomForSample roomForComponent spots joinedTest widthTest apartFrom firstBad identified run judgeOf
 samples-hold = (refl, (refl, (refl, (refl, (refl, (refl, (refl, (refl, (refl, (refl, tt))))))))))
 
 identifiers-hold : AllHold identifiers
-unfolding same every gcdIn gcd lowestTerms clash clashAny twice width before position first trimStart trimEnd trim indexOf countOf holds upTo past blankLine fieldCount pieceOf fieldOf keywordOf allClean linesOf lineJudged allDigits digitsUpTo placeOf places number isMarked textJudged versionJudged emptyJudged saysTrue saysFalse truthJudged truthOf truthOrEmptyJudged integerJudged integerOf declaredJudged declaredOf overlapJudged marginOf labelJudged labelOf millionths decimalJudged decimalOf delayJudged lowBit highBit bitsJudged bitsOf componentBitsJudged componentBitsOf sourceBitsJudged isFraction isSeconds fractionOf badFraction topOf bottomOf secondsJudged secondsOf wordForm countForm eitherForm openingForm afterSampleForm formOf pairIndex declaredFor rangeJudged wordCounts piece pieces widthOf namedApart identifierOk identifiedApart identifies taken spread samplesOf componentsOf allComponentsOf wordsOf bitsOfPairs roomForParameter roomForSample roomForComponent spots joinedTest widthTest apartFrom firstBad identified run judgeOf
+unfolding same every gcdIn gcd lowestTerms clash clashAny twice width before position first trimStart trimEnd trim indexOf countOf holds upTo past blankLine fieldCount pieceOf fieldOf keywordOf allClean linesOf lineJudged allDigits digitsUpTo placeOf places number isMarked textJudged versionJudged emptyJudged saysTrue saysFalse truthJudged truthOf truthOrEmptyJudged integerJudged integerOf declaredJudged declaredOf overlapJudged marginOf marginAs labelJudged labelOf millionths decimalJudged decimalOf delayJudged lowBit highBit bitsJudged bitsOf componentBitsJudged componentBitsOf sourceBitsJudged isFraction isSeconds fractionOf badFraction topOf bottomOf secondsJudged secondsOf wordForm countForm eitherForm openingForm afterSampleForm formOf pairIndex declaredFor rangeJudged wordCounts piece pieces widthOf namedApart identifierOk identifiedApart identifies taken spread samplesOf componentsOf allComponentsOf wordsOf bitsOfPairs roomForParameter roomForSample roomForComponent spots joinedTest widthTest apartFrom firstBad identified run judgeOf
 identifiers-hold = (refl, (refl, (refl, (refl, (refl, (refl, (refl, tt)))))))
 
 durations-hold : AllHold durations
-unfolding same every gcdIn gcd lowestTerms clash clashAny twice width before position first trimStart trimEnd trim indexOf countOf holds upTo past blankLine fieldCount pieceOf fieldOf keywordOf allClean linesOf lineJudged allDigits digitsUpTo placeOf places number isMarked textJudged versionJudged emptyJudged saysTrue saysFalse truthJudged truthOf truthOrEmptyJudged integerJudged integerOf declaredJudged declaredOf overlapJudged marginOf labelJudged labelOf millionths decimalJudged decimalOf delayJudged lowBit highBit bitsJudged bitsOf componentBitsJudged componentBitsOf sourceBitsJudged isFraction isSeconds fractionOf badFraction topOf bottomOf secondsJudged secondsOf wordForm countForm eitherForm openingForm afterSampleForm formOf pairIndex declaredFor rangeJudged wordCounts piece pieces widthOf namedApart identifierOk identifiedApart identifies taken spread samplesOf componentsOf allComponentsOf wordsOf bitsOfPairs roomForParameter roomForSample roomForComponent spots joinedTest widthTest apartFrom firstBad identified run judgeOf
+unfolding same every gcdIn gcd lowestTerms clash clashAny twice width before position first trimStart trimEnd trim indexOf countOf holds upTo past blankLine fieldCount pieceOf fieldOf keywordOf allClean linesOf lineJudged allDigits digitsUpTo placeOf places number isMarked textJudged versionJudged emptyJudged saysTrue saysFalse truthJudged truthOf truthOrEmptyJudged integerJudged integerOf declaredJudged declaredOf overlapJudged marginOf marginAs labelJudged labelOf millionths decimalJudged decimalOf delayJudged lowBit highBit bitsJudged bitsOf componentBitsJudged componentBitsOf sourceBitsJudged isFraction isSeconds fractionOf badFraction topOf bottomOf secondsJudged secondsOf wordForm countForm eitherForm openingForm afterSampleForm formOf pairIndex declaredFor rangeJudged wordCounts piece pieces widthOf namedApart identifierOk identifiedApart identifies taken spread samplesOf componentsOf allComponentsOf wordsOf bitsOfPairs roomForParameter roomForSample roomForComponent spots joinedTest widthTest apartFrom firstBad identified run judgeOf
 durations-hold = (refl, (refl, (refl, tt)))
 
 pub examples : AllHold cases

@@ -23,6 +23,7 @@ use Rattle.spell.specs.BitRanges.{lowBit, highBit, bitsJudged, bitsOf, componen
 use Rattle.spell.specs.Durations.{isFraction, isSeconds, fractionOf, badFraction, topOf, bottomOf, secondsJudged, secondsOf}
 use Rattle.lineforms.specs.Forms.{wordForm, countForm, eitherForm, openingForm, afterSampleForm, formOf}
 use Rattle.lineforms.specs.LineFields.{pairIndex, declaredFor, rangeJudged}
+use Rattle.model.specs.Margin.{marginAs}
 use Rattle.model.specs.Samples.{wordCounts, piece, pieces, widthOf}
 use Rattle.model.specs.Identifiers.{namedApart, identifierOk, identifiedApart, identifies, taken}
 use Rattle.model.specs.Wall.{wall}
@@ -32,5 +33,5 @@ use Rattle.gather.specs.WallSheet.{wallSheet}
 use Rattle.gather.specs.Ruling.{Accepted, firstBad, identified, run, judgeOf}
 
 pub wall-accepted : judgeOf wallSheet ≡ Accepted wall
-unfolding same every gcdIn gcd lowestTerms clash clashAny twice width before position first trimStart trimEnd trim indexOf countOf holds upTo past blankLine fieldCount pieceOf fieldOf keywordOf allClean linesOf lineJudged allDigits digitsUpTo placeOf places number isMarked textJudged versionJudged emptyJudged saysTrue saysFalse truthJudged truthOf truthOrEmptyJudged integerJudged integerOf declaredJudged declaredOf overlapJudged marginOf labelJudged labelOf millionths decimalJudged decimalOf delayJudged lowBit highBit bitsJudged bitsOf componentBitsJudged componentBitsOf sourceBitsJudged isFraction isSeconds fractionOf badFraction topOf bottomOf secondsJudged secondsOf wordForm countForm eitherForm openingForm afterSampleForm formOf pairIndex declaredFor rangeJudged wordCounts piece pieces widthOf namedApart identifierOk identifiedApart identifies taken spread samplesOf componentsOf allComponentsOf wordsOf bitsOfPairs roomForParameter roomForSample roomForComponent spots joinedTest widthTest apartFrom firstBad identified run judgeOf
+unfolding same every gcdIn gcd lowestTerms clash clashAny twice width before position first trimStart trimEnd trim indexOf countOf holds upTo past blankLine fieldCount pieceOf fieldOf keywordOf allClean linesOf lineJudged allDigits digitsUpTo placeOf places number isMarked textJudged versionJudged emptyJudged saysTrue saysFalse truthJudged truthOf truthOrEmptyJudged integerJudged integerOf declaredJudged declaredOf overlapJudged marginOf marginAs labelJudged labelOf millionths decimalJudged decimalOf delayJudged lowBit highBit bitsJudged bitsOf componentBitsJudged componentBitsOf sourceBitsJudged isFraction isSeconds fractionOf badFraction topOf bottomOf secondsJudged secondsOf wordForm countForm eitherForm openingForm afterSampleForm formOf pairIndex declaredFor rangeJudged wordCounts piece pieces widthOf namedApart identifierOk identifiedApart identifies taken spread samplesOf componentsOf allComponentsOf wordsOf bitsOfPairs roomForParameter roomForSample roomForComponent spots joinedTest widthTest apartFrom firstBad identified run judgeOf
 wall-accepted = refl

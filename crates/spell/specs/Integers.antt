@@ -39,9 +39,9 @@ declaredOf count f = saysNumber (declaredJudged count f) (number 10 f)
 unfoldable pub overlapJudged : List ℕ → Judged
 overlapJudged f = first (integerJudged 6 0 mostOfSix f ∷ when (not (eqb (number 10 f) 0)) NotCarried ∷ [])
 
--- "Leading and trailing may be empty; empty is stored as 0"
-unfoldable pub marginOf : ℕ → List ℕ → Number
-marginOf most f = cond (isEmpty f) (Value 0) (integerOf 6 0 most f)
+-- "Leading and trailing may be empty"; an empty one says the number that stands for unknown
+unfoldable pub marginOf : ℕ → ℕ → List ℕ → Number
+marginOf most blank f = cond (isEmpty f) (Value blank) (integerOf 6 0 most f)
 
 -- "label 377 octal"
 abbrev pub highestLabel : ℕ

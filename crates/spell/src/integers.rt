@@ -60,12 +60,12 @@ pub fn overlap(f: &[u8]) -> Judged
     }
 }
 
-// 6, 11: an empty field says 0.
-pub fn margin(f: &[u8], most: u64) -> Number
-    ensures { λ r. ⌜ r ≡ marginOf most (now (f .entry)) ⌝ }
+// 6, 11: an empty field says what stands for unknown.
+pub fn margin(f: &[u8], most: u64, blank: u64) -> Number
+    ensures { λ r. ⌜ r ≡ marginOf most blank (now (f .entry)) ⌝ }
 {
     if f.len() == 0 {
-        return Number::Value(0);
+        return Number::Value(blank);
     }
     integer(f, 6, 0, most)
 }

@@ -3,6 +3,7 @@ use crate::say::number;
 use crate::say::refused;
 use crate::say::text;
 use model::limits::BITS;
+use model::limits::BLANK_MARGIN;
 use model::limits::MARGIN;
 use model::limits::SUBFRAMES;
 use model::limits::TEXT;
@@ -100,7 +101,7 @@ pub fn answer_text(kind: u64, f: &[u8]) {
         1 => number_text(integer(f, 6, 1, WORDS as u64)),
         2 => number_text(integer(f, 6, 1, SUBFRAMES as u64)),
         3 => number_text(integer(f, 6, 1, BITS as u64)),
-        4 => number_text(margin(f, MARGIN as u64)),
+        4 => number_text(margin(f, MARGIN as u64, BLANK_MARGIN as u64)),
         5 => number_text(integer(f, 10, 0, VALUE as u64)),
         6 => number_text(declared(f, 1)),
         7 => number_text(declared(f, 4)),

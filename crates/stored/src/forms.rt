@@ -30,7 +30,7 @@ pub const FORM_WIDE: usize = 2;
 pub const FORM_ENDS: usize = 16;
 
 // New tables are written in this form.
-pub const NEWEST: usize = 1;
+pub const NEWEST: usize = 2;
 
 // The header's items but for the form: the total, flags, zero bytes, where the text begins; then of each part how many entries
 // it has, and where it begins.
@@ -87,12 +87,13 @@ pub struct ComponentShape {
     pub high: Place,
 }
 
-// How much a form holds at most.
+// How much a form holds at most, and whether a margin may be unknown in it (blank).
 pub struct Bounds {
     pub subframes: usize,
     pub bits: usize,
     pub words: usize,
     pub margin: usize,
+    pub blank: bool,
     pub parameters: usize,
     pub samplesEach: usize,
     pub samples: usize,
@@ -204,6 +205,7 @@ pub fn component_shape(f: usize) -> ComponentShape
     }
 }
 
+// All forms hold as much; form 1 has no way to say that a margin is unknown.
 pub fn bounds_of(f: usize) -> Bounds
     requires { ⌜ known f ≡ true ⌝ }
     ensures { λ r. ⌜ r ≡ boundsOf (limitsOf f) ⌝ }
@@ -213,6 +215,7 @@ pub fn bounds_of(f: usize) -> Bounds
         bits: BITS,
         words: WORDS,
         margin: MARGIN,
+        blank: 2 <= f,
         parameters: PARAMETERS,
         samplesEach: SAMPLES_EACH,
         samples: SAMPLES,

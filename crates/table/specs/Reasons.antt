@@ -1,7 +1,7 @@
 -- Why a call on a table is refused, with 01's and 02's numbers: the one definition of them for every call.
 use Prim.Native.Nat.{ℕ}
 use Rattle.table.specs.declared.reason.Reason.{Reason}
-use Rattle.table.specs.declared.reason.Reason.the-variants.{NoTable, OtherCount, HighWord, NoParameter, NoSample, TooLarge, NoFrame, NoParameters, FewWords, LongStream}
+use Rattle.table.specs.declared.reason.Reason.the-variants.{NoTable, OtherCount, HighWord, NoParameter, NoSample, TooLarge, NoFrame, UnknownMargin, NoParameters, FewWords, LongStream}
 
 unfoldable pub reasonNumber : Reason → ℕ
 -- "bytes aren't a table"
@@ -18,6 +18,8 @@ reasonNumber NoSample = 22
 reasonNumber TooLarge = 23
 -- 02: "no such position exists"
 reasonNumber NoFrame = 25
+-- 02: "for form 1 or for an unknown margin"
+reasonNumber UnknownMargin = 26
 -- 02: "a table without parameters"
 reasonNumber NoParameters = 27
 -- 02: "a lent word slice too short"

@@ -19,7 +19,7 @@ returns : tie.Need-returns
 returns c = refused-25 _ _ _ _ (c .before .position-from .ensures) (c .if1 .taken)
 
 bases-of-requires : tie.Need-bases-of-requires
-bases-of-requires c κs = (c .before .before .before .before .before .before .before .before .pre .0 .opened, c .before .before .before .before .before .before .before .before .pre .0 .ruled .subframes)
+bases-of-requires c κs = (c .before .before .before .before .before .before .before .before .pre .0 .0 .opened, c .before .before .before .before .before .before .before .before .pre .0 .0 .ruled .subframes)
 
 frame-words-requires : tie.Need-frame-words-requires
 frame-words-requires c κs = search needs
@@ -29,13 +29,13 @@ returns-2 c = refused-28 _ _ _ _ (c .before .before .before .before .before .pos
 
 hand-out-requires : tie.Need-hand-out-requires
 hand-out-requires c κs =
-    (c .before .before .before .before .before .before .before .before .before .before .before .before .before .before .pre .0, (c .before .before .before .before .before .before .before .before .before .before .span-of .ensures .begins-are, (omega (arith, c .before .before .before .before .before .before .if1 .left, c .before .before .before .before .before .before .before .before .before .before .before .before .before .before .pre .1 .0), omega (arith, c .before .before .if2 .left, c .before .before .before .frame-words .ensures))))
+    (c .before .before .before .before .before .before .before .before .before .before .before .before .before .before .pre .0 .0, (c .before .before .before .before .before .before .before .before .before .before .span-of .ensures .begins-are, (omega (arith, c .before .before .before .before .before .before .if1 .left, c .before .before .before .before .before .before .before .before .before .before .before .before .before .before .pre .1 .0), omega (arith, c .before .before .if2 .left, c .before .before .before .frame-words .ensures))))
 
 cast-t23 : tie.Need-cast-t23
 cast-t23 c = search needs
 
 cast-t24 : tie.Need-cast-t24
-cast-t24 c = omega (arith, few-words _ (c .before .before .before .before .before .before .before .before .before .before .before .before .before .before .before .before .before .pre .0 .ruled), c .before .before .before .before .before .before .frame-words .ensures)
+cast-t24 c = omega (arith, few-words _ (c .before .before .before .before .before .before .before .before .before .before .before .before .before .before .before .before .before .pre .0 .0 .ruled), c .before .before .before .before .before .before .frame-words .ensures)
 
 same-length : tie.Need-same-length
 same-length c = search needs

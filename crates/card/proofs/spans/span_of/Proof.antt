@@ -16,7 +16,8 @@ use Rattle.model.specs.View.{view}
 use Rattle.model.proofs.Views.{subframes-view}
 use Rattle.carding.specs.Layout.{bitsBefore, wordsBegin}
 use Rattle.card.specs.Promise.{mostSubframeBits, mostFrameBits}
-use Rattle.card.proofs.SpanLaws.{span-first, span-next, begins-there, narrow-there}
+use Rattle.card.proofs.MarginLaws.{told-known}
+use Rattle.card.proofs.SpanLaws.{span-first, span-next, begins-there, narrow-there, margins-there}
 use Rattle.card.proofs.spans.span_of.Statement.{statement}
 use Rattle.card.proofs.spans.span_of.Tie as tie
 
@@ -56,7 +57,8 @@ add-begins c =
     let s = c .before .before .before .before .before in
     let v = c .before .before .before .loop .inv in
     let l : c .before .before .before .loop .i < subframesIn (now (s .args .t)) = omega (arith, v, c .before .before .loop-test .taken) in
-    let n = narrow-there (now (s .args .t)) (c .before .before .before .loop .i) l (s .pre .1) in
+    let k = told-known (now (s .args .t)) (s .pre .1 .1) (c .before .before .before .loop .i) l in
+    let n = margins-there (now (s .args .t)) (c .before .before .before .loop .i) l k (s .pre .1 .0) in
     record { fits = omega (arith, v, n, s .pre .0 .sized .fewSubframes, c .before .subframe-at .ensures, l) }
 
 mul-begins : tie.Need-mul-begins Inv-loop μ-loop
@@ -70,9 +72,11 @@ subframe-bits-requires c κs =
     let s = c .before .before .before .before .before in
     let v = c .before .before .before .loop .inv in
     let l : c .before .before .before .loop .i < subframesIn (now (s .args .t)) = omega (arith, v, c .before .before .loop-test .taken) in
-    let n = narrow-there (now (s .args .t)) (c .before .before .before .loop .i) l (s .pre .1) in
+    let n = narrow-there (now (s .args .t)) (c .before .before .before .loop .i) l (s .pre .1 .0) in
+    let k = told-known (now (s .args .t)) (s .pre .1 .1) (c .before .before .before .loop .i) l in
+    let m = margins-there (now (s .args .t)) (c .before .before .before .loop .i) l k (s .pre .1 .0) in
     let e = c .before .subframe-at .ensures in
-    (omega (arith, n, e), omega (arith, n, e), omega (arith, n, e), omega (arith, n, e))
+    (omega (arith, m, e), omega (arith, n, e), omega (arith, n, e), omega (arith, m, e))
 
 add-sum : tie.Need-add-sum Inv-loop μ-loop
 add-sum c =
@@ -94,16 +98,17 @@ loop-again c =
     let list = c .before .before .before .before .loop .begins in
     let l : i < subframesIn b = omega (arith, v, c .before .before .before .loop-test .taken) in
     let e = c .before .before .subframe-at .ensures in
-    let n = narrow-there b i l (s .pre .1) in
+    let known = told-known b (s .pre .1 .1) i l in
+    let n = margins-there b i l known (s .pre .1 .0) in
     let k : i < length list = omega (arith, v, l, s .pre .0 .sized .fewSubframes) in
     let x : ℕ = c .before .before .before .before .loop .sum + c .before .before .subframe-at .result .leading in
     record {
       counted = v .counted;
       within = omega (arith, v, l);
       long = length-set list i x ∙ v .long;
-      sums = ap₂ _+_ (v .sums) (c .subframe-bits .ensures .0 ∙ rw (e .leading-is, e .words-is, e .bits-is, e .trailing-is)) ∙ sym (span-next b i l);
+      sums = ap₂ _+_ (v .sums) (c .subframe-bits .ensures .0 ∙ rw (e .leading-is, e .words-is, e .bits-is, e .trailing-is)) ∙ sym (span-next b i l known);
       small = omega (arith, v, c .subframe-bits .ensures);
-      each = below-more _ i (λ m q. getD-set-other list i m x 0 (λ z. let w : ⊥ = omega arith in w) ∙ v .each m q) (getD-set-same list i x 0 k ∙ ap₂ _+_ (v .sums) (e .leading-is) ∙ sym (begins-there b i l));
+      each = below-more _ i (λ m q. getD-set-other list i m x 0 (λ z. let w : ⊥ = omega arith in w) ∙ v .each m q) (getD-set-same list i x 0 k ∙ ap₂ _+_ (v .sums) (e .leading-is) ∙ sym (begins-there b i l known));
       low = below-more _ i (λ m q. subst (λ (x : ℕ). x ≤ mostFrameBits) (sym (getD-set-other list i m x 0 (λ z. let w : ⊥ = omega arith in w))) (v .low m q)) (subst (λ (x : ℕ). x ≤ mostFrameBits) (sym (getD-set-same list i x 0 k)) (omega (arith, v, l, e, n, s .pre .0 .sized .fewSubframes)));
     }
 

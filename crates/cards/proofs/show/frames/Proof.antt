@@ -23,7 +23,7 @@ frame-words-requires : tie.Need-frame-words-requires Inv-loop μ-loop
 frame-words-requires c κs = (c .before .before .before .before .before .pre .0 .0, c .before .bases-of .ensures)
 
 span-of-requires : tie.Need-span-of-requires Inv-loop μ-loop
-span-of-requires c κs = let r = c .before .before .before .before .before .before .pre .0 .0 in (r .opened, r .ruled .subframes)
+span-of-requires c κs = let r = c .before .before .before .before .before .before .pre .0 .0 in (r .opened, (r .ruled .subframes, c .before .before .before .before .before .before .pre .0 .1))
 
 cast-bits : tie.Need-cast-bits Inv-loop μ-loop
 cast-bits c = search needs
@@ -43,7 +43,7 @@ rows-requires c κs =
     (s .0 .0, (c .before .before .before .before .before .before .before .bases-of .ensures, length-take-le _ _ (omega (arith, c .before .before .before .before .before .frame-words .ensures, c .before .before .loop .inv .1, s .1 .1)) ∙ c .before .before .before .before .before .frame-words .ensures))
 
 add-card-from : tie.Need-add-card-from Inv-loop μ-loop
-add-card-from c = omega (arith, c .before .before .before .loop .inv .0, c .before .before .before .before .before .before .before .before .before .before .before .before .pre .0 .1)
+add-card-from c = omega (arith, c .before .before .before .loop .inv .0, c .before .before .before .before .before .before .before .before .before .before .before .before .pre .0 .2)
 
 card-from-requires : tie.Need-card-from-requires Inv-loop μ-loop
 card-from-requires c κs = search needs
@@ -63,12 +63,12 @@ returns c = search needs
 loop-less : tie.Need-loop-less Inv-loop μ-loop
 loop-less c =
     let w = found-stands _ _ _ _ _ _ (sym (c .before .before .before .before .before .card-from .ensures .0) ∙ c .before .found .given .1) in
-    omega (arith, w .after, w .whole, w .some, bits-there _ (w .accepted), c .before .before .before .before .before .before .before .before .before .before .before .before .span-of .ensures .bits-are)
+    omega (arith, w .after, w .whole, w .some, bits-there _ (w .accepted) (w .told), c .before .before .before .before .before .before .before .before .before .before .before .before .span-of .ensures .bits-are)
 
 loop-again : tie.Need-loop-again Inv-loop μ-loop
 loop-again c =
     let w = found-stands _ _ _ _ _ _ (sym (c .before .before .before .before .before .card-from .ensures .0) ∙ c .before .found .given .1) in
-    (omega (arith, w .whole, bits-there _ (w .accepted), c .before .before .before .before .before .before .before .before .before .before .before .before .span-of .ensures .bits-are), search needs)
+    (omega (arith, w .whole, bits-there _ (w .accepted) (w .told), c .before .before .before .before .before .before .before .before .before .before .before .before .span-of .ensures .bits-are), search needs)
 
 pub frames-spec : {M : Type 1} → statement M
 frames-spec =

@@ -53,7 +53,7 @@ heading-requires c κs = search needs
 frames-requires : tie.Need-frames-requires
 frames-requires c κs =
     let w = found-stands _ _ _ _ _ _ (sym (c .before .before .before .before .before .before .before .card .ensures .0) ∙ c .before .before .before .found .given .1) in
-    ((opened-ruled (c .before .before .before .before .before .before .before .before .before .before .before .before .opening .ensures) (c .before .before .before .before .before .before .before .before .before .before .opened .given .1), w .short), (omega (arith, w .whole, bits-there _ (w .accepted)), omega (arith, w .counted, w .room)))
+    ((opened-ruled (c .before .before .before .before .before .before .before .before .before .before .before .before .opening .ensures) (c .before .before .before .before .before .before .before .before .before .before .opened .given .1), w .told, w .short), (omega (arith, w .whole, bits-there _ (w .accepted) (w .told)), omega (arith, w .counted, w .room)))
 
 same-length-2 : tie.Need-same-length-2
 same-length-2 c = search needs

@@ -1,6 +1,6 @@
 -- Each item at its place.
 use Prim.Native.Nat.{ℕ}
-use mathlib.Core.Path.{refl, ap}
+use mathlib.Core.Path.{refl, sym, ap}
 use native.Mathlib.Omega.{arith}
 use lib.ListN.{length, getD}
 use Rattle.lay.specs.Slots.{plain, long}
@@ -14,6 +14,7 @@ use Rattle.laying.proofs.Placing.{none-done, one-done, all-done}
 use Rattle.maker.specs.Entries.{saidSubframe}
 use Rattle.maker.proofs.ItemPlaces.{new-sound, place-room}
 use Rattle.model.proofs.Rows.{known-newest}
+use Rattle.model.proofs.Margins.{number-back}
 use Rattle.stored.specs.declared.forms.SubframeShape.{SubframeShape}
 use borrow.Author.Needs.{needs}
 use Rattle.maker.proofs.entries.put_subframe.Statement.{statement}
@@ -72,8 +73,8 @@ returns c =
     let d0 = none-done (entryItems subframePart) (slotsOf newLayout subframePart) v (b .args .out .now) (b .args .o) t (b .pre) in
     let d1 = one-done (entryItems subframePart) (slotsOf newLayout subframePart) v (b .args .out .now) (b .args .o) t (b .pre) _ item.bits _ _ _ _ d0 (ap (λ (s : SubframeShape). s .bits) q) refl (c .before .before .before .before .before .before .before .before .before .before .before .before .before .before .before .before .before .before .before .before .before .before .put-item .ensures) in
     let d2 = one-done (entryItems subframePart) (slotsOf newLayout subframePart) v (b .args .out .now) (b .args .o) t (b .pre) _ item.words _ _ _ _ d1 (ap (λ (s : SubframeShape). s .words) q) refl (c .before .before .before .before .before .before .before .before .before .before .before .before .before .before .before .before .before .before .put-item2 .ensures) in
-    let d3 = one-done (entryItems subframePart) (slotsOf newLayout subframePart) v (b .args .out .now) (b .args .o) t (b .pre) _ item.leading _ _ _ _ d2 (ap (λ (s : SubframeShape). s .leading) q) refl (c .before .before .before .before .before .before .before .before .before .before .before .before .before .before .put-item3 .ensures) in
-    let d4 = one-done (entryItems subframePart) (slotsOf newLayout subframePart) v (b .args .out .now) (b .args .o) t (b .pre) _ item.trailing _ _ _ _ d3 (ap (λ (s : SubframeShape). s .trailing) q) refl (c .before .before .before .before .before .before .before .before .before .before .put-item4 .ensures) in
+    let d3 = one-done (entryItems subframePart) (slotsOf newLayout subframePart) v (b .args .out .now) (b .args .o) t (b .pre) _ item.leading _ _ _ _ d2 (ap (λ (s : SubframeShape). s .leading) q) (sym (number-back _)) (c .before .before .before .before .before .before .before .before .before .before .before .before .before .before .put-item3 .ensures) in
+    let d4 = one-done (entryItems subframePart) (slotsOf newLayout subframePart) v (b .args .out .now) (b .args .o) t (b .pre) _ item.trailing _ _ _ _ d3 (ap (λ (s : SubframeShape). s .trailing) q) (sym (number-back _)) (c .before .before .before .before .before .before .before .before .before .before .put-item4 .ensures) in
     let d5 = one-done (entryItems subframePart) (slotsOf newLayout subframePart) v (b .args .out .now) (b .args .o) t (b .pre) _ item.numerator _ _ _ _ d4 (ap (λ (s : SubframeShape). s .numerator) q) refl (c .before .before .before .before .before .before .put-long .ensures) in
     let d6 = one-done (entryItems subframePart) (slotsOf newLayout subframePart) v (b .args .out .now) (b .args .o) t (b .pre) _ item.denominator _ _ _ _ d5 (ap (λ (s : SubframeShape). s .denominator) q) refl (c .before .before .put-item5 .ensures) in
     all-done (entryItems subframePart) (slotsOf newLayout subframePart) v (b .args .out .now) (b .args .o) t (b .pre) _ _ refl d6

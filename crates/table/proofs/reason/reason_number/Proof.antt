@@ -35,6 +35,9 @@ enum-told-9 c = search needs
 enum-told-10 : tie.Need-enum-told-10
 enum-told-10 c = search needs
 
+enum-told-11 : tie.Need-enum-told-11
+enum-told-11 c = search needs
+
 returns : tie.Need-returns
 unfolding reasonNumber
 returns c = sym (ap reasonNumber (c .enum-told .given .1))
@@ -75,6 +78,10 @@ returns-10 : tie.Need-returns-10
 unfolding reasonNumber
 returns-10 c = sym (ap reasonNumber (c .enum-told10 .given .1))
 
+returns-11 : tie.Need-returns-11
+unfolding reasonNumber
+returns-11 c = sym (ap reasonNumber (c .enum-told11 .given .1))
+
 pub reason-number-spec : {M : Type 1} → statement M
 reason-number-spec =
     tie.close
@@ -89,6 +96,7 @@ reason-number-spec =
     enum-told-8
     enum-told-9
     enum-told-10
+    enum-told-11
     returns
     returns-2
     returns-3
@@ -98,4 +106,5 @@ reason-number-spec =
     returns-7
     returns-8
     returns-9
-    returns-10)
+    returns-10
+    returns-11)
