@@ -1,17 +1,17 @@
 -- A table's margins, by its bytes. Assumes nothing.
-use mathlib.Core.Path.{_≡_, refl, sym, ap, _∙_, subst}
-use mathlib.Core.Bool.{Bool, true, false, _&&_, true≢false}
+use mathlib.Core.Path.{_≡_, sym, ap, _∙_}
+use mathlib.Core.Bool.{Bool, true, false, _&&_}
 use mathlib.Core.List.{List}
-use Prim.Native.Nat.{ℕ, _≤_, _<_}
+use Prim.Native.Nat.{ℕ, _<_}
 use native.Mathlib.Omega.{arith}
 use Rattle.lay.proofs.Below.{all-below, all-made}
 use Rattle.lay.proofs.Tests.{and-0, and-1, and-both, refuse, differ}
-use Rattle.model.specs.Margin.{Margin, isKnown, marginBits, blankMargin, marginAs}
+use Rattle.model.specs.Margin.{isKnown, blankMargin, marginAs}
 use Rattle.model.specs.Content.{Subframe, subframe, subframes}
 use Rattle.model.specs.Forms.{limitsIn}
 use Rattle.model.specs.Stored.{subframesIn, leadingIn, trailingIn}
 use Rattle.model.specs.View.{subframeAt, view}
-use Rattle.model.proofs.Margins.{margin-unknown, margin-known}
+use Rattle.model.proofs.Margins.{unknown-not, margin-unknown, margin-known}
 use Rattle.model.proofs.Views.{subframes-view, subframe-view}
 use Rattle.carding.specs.Answer.{marginsKnown, marginsTold}
 
@@ -49,14 +49,11 @@ module _ (b : List ℕ) where
   untold-form h = refuse _ (λ t. differ h (and-0 _ _ t))
 
   -- "or for an unknown margin"
-  not-known : (n : ℕ) → n ≡ blankMargin → isKnown (marginAs n) ≡ true → ⊥
-  not-known n e k = true≢false (sym k ∙ ap isKnown (margin-unknown n e))
-
   pub untold-leading : (i : ℕ) → i < subframesIn b → leadingIn b i ≡ blankMargin → false ≡ marginsTold b
-  untold-leading i l e = refuse _ (λ t. not-known _ e (told-known t i l .leading))
+  untold-leading i l e = refuse _ (λ t. unknown-not _ (margin-unknown _ e) (told-known t i l .leading))
 
   pub untold-trailing : (i : ℕ) → i < subframesIn b → trailingIn b i ≡ blankMargin → false ≡ marginsTold b
-  untold-trailing i l e = refuse _ (λ t. not-known _ e (told-known t i l .trailing))
+  untold-trailing i l e = refuse _ (λ t. unknown-not _ (margin-unknown _ e) (told-known t i l .trailing))
 
 pub known-made : (n : ℕ) → (n ≡ blankMargin → ⊥) → isKnown (marginAs n) ≡ true
 known-made n h = ap isKnown (margin-known n h)

@@ -3,50 +3,30 @@ use mathlib.Core.Path.{_≡_, refl, sym, ap, _∙_}
 use mathlib.Core.Logic.{_⊎_, inl, inr, _↔_, ⊎-elim}
 use mathlib.Core.Bool.{Bool, true, false, _&&_, not, cond, true≢false}
 use mathlib.Core.List.{List}
-use Prim.Native.Nat.{ℕ, _<_}
+use Prim.Native.Nat.{ℕ}
 use native.Mathlib.Omega.{arith}
-use borrow.Author.Tests.{eqb-true, eq-eqb}
+use borrow.Author.Tests.{eqb-true, eq-eqb, not-false}
 use lib.Dec.{eqb, leb}
 use lib.ListN.{length}
-use Rattle.lay.specs.Below.{all, any}
-use Rattle.lay.proofs.Below.{Some, all-below, all-made, any-some, any-made}
-use Rattle.lay.proofs.Tests.{and-0, and-1, refuse, differ, not-holds}
-use Rattle.model.specs.Margin.{Margin, Known, Unknown, isKnown}
+use Rattle.lay.proofs.Below.{all-below, all-fails}
+use Rattle.lay.proofs.Tests.{and-0, and-1, refuse, not-holds}
+use Rattle.model.specs.Margin.{Unknown, isKnown}
 use Rattle.model.specs.Content.{Content, subframe, subframes, parameters}
 use Rattle.model.specs.Forms.{formIn, limitsIn}
 use Rattle.model.specs.Frame.{frameWords}
 use Rattle.model.specs.Accepts.{accepts}
 use Rattle.model.specs.View.{view}
+use Rattle.model.proofs.Margins.{not-known, unknown-not}
 use Rattle.model.proofs.Rows.{blank-said}
 use Rattle.model.proofs.Statements.{accepted-known}
 use Rattle.table.specs.Reasons.{reasonNumber}
-use Rattle.table.specs.declared.reason.Reason.the-variants.{NoTable, UnknownMargin, NoParameters, LongStream, NoFrame, FewWords}
-use Rattle.carding.specs.declared.carded.Carded.{Carded}
+use Rattle.table.specs.declared.reason.Reason.the-variants.{UnknownMargin, NoParameters, LongStream, NoFrame, FewWords}
 use Rattle.carding.specs.declared.carded.Carded.the-variants.{Found, Refused}
 use Rattle.carding.specs.Search.{positionFrom, foundFrom}
 use Rattle.carding.specs.Answer.{longestStream, marginsKnown, SomeUnknown, marginsTold, searched, cardedIn, cardedOf, cardedNumber}
 use Rattle.carding.proofs.CardCases.{refused-26}
 
--- ---- one margin, and all
-
-not-known : (m : Margin) → isKnown m ≡ false → m ≡ Unknown
-not-known (Known n) h = absurd (true≢false h)
-not-known Unknown h = refl
-
-unknown-not : (m : Margin) → m ≡ Unknown → isKnown m ≡ true → ⊥
-unknown-not m e k = true≢false (sym k ∙ ap isKnown e)
-
--- a test that does not hold of all fails somewhere
-fails : (n : ℕ) (p : ℕ → Bool) → all n p ≡ false → Some n (λ k. not (p k))
-fails n p h = go (any n (λ k. not (p k))) refl
-  where
-    holds : any n (λ k. not (p k)) ≡ false → (k : ℕ) → (t : Bool) → p k ≡ t → k < n → p k ≡ true
-    holds a k true e l = e
-    holds a k false e l = absurd (differ a (any-made n (λ k. not (p k)) k l (ap not e)))
-
-    go : (t : Bool) → any n (λ k. not (p k)) ≡ t → Some n (λ k. not (p k))
-    go true a = any-some n (λ k. not (p k)) a
-    go false a = absurd (differ h (all-made n p (λ k l. holds a k (p k) refl l)))
+-- ---- all margins
 
 module _ (c : Content) where
   abbrev both : ℕ → Bool
@@ -65,7 +45,7 @@ module _ (c : Content) where
   pub unknown-some : marginsKnown c ≡ false → SomeUnknown c
   unfolding marginsKnown
   unknown-some h =
-      let s = fails (subframes c) both h in
+      let s = all-fails (subframes c) both h in
       record { at = s .at; here = s .below; unknown = either (s .at) (isKnown (subframe c (s .at) .leading)) refl (not-holds (both (s .at)) (s .holds)) }
 
 -- ---- a table
@@ -77,10 +57,6 @@ module _ (b : List ℕ) (h : accepts b ≡ true) where
 
   first-form : limitsIn b .blank ≡ false → formIn b ≡ 1
   first-form e = eqb-true (formIn b) 1 (not-false (eqb (formIn b) 1) (sym said ∙ e))
-    where
-      not-false : (t : Bool) → not t ≡ false → t ≡ true
-      not-false true q = refl
-      not-false false q = absurd (true≢false q)
 
   pub not-told : (formIn b ≡ 1) ⊎ SomeUnknown (view b) → marginsTold b ≡ true → ⊥
   unfolding marginsTold

@@ -12,7 +12,6 @@ use lib.ListN.{length, take, drop}
 use Rattle.text.specs.declared.refusal.Refusal.{Refusal}
 use Rattle.text.specs.declared.refusal.Refusal.the-variants.{TableTooSmall}
 use Rattle.lay.specs.Bytes.{AreBytes}
-use Rattle.lay.proofs.Tests.{refuse}
 use Rattle.sample.specs.Component.{Place, Named}
 use Rattle.sample.specs.Joining.{join, width}
 use Rattle.sample.specs.Source.{bitIn}

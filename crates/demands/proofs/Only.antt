@@ -8,10 +8,9 @@ use mathlib.Core.Path.{_≡_, refl, sym, ap, ap₂, subst, _∙_}
 use mathlib.Core.List.{List}
 use mathlib.Core.Logic.{inl, inr}
 use denote.Ref.{RefT, now}
-use borrow.Author.Tests.{le-leb, lt-leb, leb-true, ltb-true}
+use borrow.Author.Tests.{le-leb, lt-leb, ltb-true}
 use lib.IntN.{ℤ}
 use lib.ListN.{length, take, take-append-drop}
-use Rattle.lay.proofs.Tests.{rule}
 use Rattle.sample.specs.Component.{Place, Named}
 use Rattle.sample.specs.declared.component.Component.{Component}
 use Rattle.sample.specs.Joining.{join, width}
@@ -32,7 +31,6 @@ use Rattle.maker.specs.Made.{madeOf, leftOf}
 use Rattle.maker.specs.declared.make.Made.the-variants as made
 use Rattle.bench.specs.Promises.{Makes, Names, NamesBy, Cards, FrameBits}
 use Rattle.table.specs.Answers.{NameOf, checkOf, askedNumber, askedMnemonic, askedRefusal, nameAnswered, placeAnswered}
-use Rattle.table.specs.declared.check.Checked.the-variants.{Table}
 use Rattle.table.specs.declared.naming.Asked.{Asked}
 use Rattle.table.specs.declared.naming.Asked.the-variants as asked
 use Rattle.framing.specs.Reading.{readOf, readNumber}
@@ -40,13 +38,13 @@ use Rattle.framing.specs.Placing.{placeOf, placedOf}
 use Rattle.framing.specs.Comparing.{comparedOf}
 use Rattle.framing.specs.declared.read.Reading.the-variants.{Sample}
 use Rattle.demands.specs.Calls.{Calls, Kept}
-use Rattle.demands.specs.Refusing.{componentsOf, firstBroken, readRules, placeRules, nameRules, mnemonicRules, checkRules, cardRules, bitsRules}
+use Rattle.demands.specs.Refusing.{componentsOf, firstBroken, readRules, placeRules, nameRules, mnemonicRules, cardRules, bitsRules}
 use Rattle.demands.specs.Demands.{answerFor, Fitting, EmptyPart, NamePart, ValuePlaced, Demands}
 use Rattle.demands.proofs.Numbers.{read-number, place-number, compare-number, name-number, mnemonic-number}
 use Rattle.demands.proofs.Parts.{name-asked, mnemonic-found, first-differing}
 use Rattle.demands.proofs.Told.{same-reading, same-placing, same-checked, same-compared}
 use Rattle.demands.proofs.Cards.{card-number, findable, handed-alike, same-carded}
-use Rattle.demands.proofs.Unbroken.{Readable, readable, long, place-readable, holds-first}
+use Rattle.demands.proofs.Unbroken.{Readable, readable, long, place-readable}
 use Rattle.demands.proofs.Meeting.{accepts-of, check-of}
 use Rattle.demands.proofs.Ours.{ours, ours-meets}
 

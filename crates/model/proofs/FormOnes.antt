@@ -1,19 +1,17 @@
 -- A table of form 1 is one exactly where it was one, and says what it said. Assumes nothing.
-use mathlib.Core.Path.{_≡_, refl, sym, ap, ap₂, _∙_, subst}
-use mathlib.Core.Bool.{Bool, true, false, cond, true≢false}
+use mathlib.Core.Path.{_≡_, refl, sym, ap, _∙_, subst}
+use mathlib.Core.Bool.{Bool, true, false, true≢false}
 use mathlib.Core.List.{List}
 use Prim.Native.Nat.{ℕ, _≤_, _<_}
 use native.Mathlib.Omega.{arith}
-use lib.ListN.{getD}
-use Rattle.lay.specs.Below.{tab, every}
 use Rattle.lay.proofs.Below.{length-tab, getD-tab, tab-same}
 use Rattle.lay.proofs.Tests.{rule, same-tests}
-use Rattle.model.specs.Margin.{Margin, Known, blankMargin, marginAs}
-use Rattle.model.specs.Content.{Content, Subframe, noSubframe, subframe, subframes}
+use Rattle.model.specs.Margin.{Known, marginAs}
+use Rattle.model.specs.Content.{Content, noSubframe}
 use Rattle.model.specs.Forms.{rows, row, limits1, limitsOf, formIn, limitsIn}
 use Rattle.model.specs.Limits.{Limits}
 use Rattle.model.specs.Lawful.{lawful}
-use Rattle.model.specs.Meaning.{MarginLaw, SubframeLaw, Lawful}
+use Rattle.model.specs.Meaning.{MarginLaw, SubframeLaw}
 use Rattle.model.specs.Stored.{subframesIn, leadingIn, trailingIn}
 use Rattle.model.specs.View.{subframeAt, view}
 use Rattle.model.specs.Accepts.{accepts}

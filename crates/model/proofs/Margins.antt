@@ -1,15 +1,22 @@
 -- Margins and their numbers: there and back, within a form's limits. Assumes nothing.
-use mathlib.Core.Path.{_≡_, refl, sym}
+use mathlib.Core.Path.{_≡_, refl, sym, ap, _∙_}
 use mathlib.Core.Bool.{Bool, true, false, cond, true≢false}
 use Prim.Native.Nat.{ℕ, _≤_, _<_}
 use native.Mathlib.Omega.{arith}
-use borrow.Author.Tests.{leb-true, le-leb, eqb-true, eqb-false, ne-eqb}
+use borrow.Author.Tests.{leb-true, le-leb, eqb-true, ne-eqb}
 use lib.Dec.{eqb}
 use Rattle.model.specs.Margin.{Margin, Known, Unknown, isKnown, marginBits, blankMargin, marginNumber, marginAs}
 use Rattle.model.specs.Limits.{Limits}
 use Rattle.model.specs.Rules.{marginOk}
 use Rattle.model.specs.Meaning.{MarginLaw}
 use Rattle.model.specs.Sound.{marginMost}
+
+pub not-known : (m : Margin) → isKnown m ≡ false → m ≡ Unknown
+not-known (Known n) h = absurd (true≢false h)
+not-known Unknown h = refl
+
+pub unknown-not : (m : Margin) → m ≡ Unknown → isKnown m ≡ true → ⊥
+unknown-not m e k = true≢false (sym k ∙ ap isKnown e)
 
 module _ (n : ℕ) where
   pub margin-unknown : n ≡ blankMargin → marginAs n ≡ Unknown

@@ -1,5 +1,5 @@
 -- Unknown, or so many.
-use mathlib.Core.Path.{_≡_, refl, sym, ap, _∙_}
+use mathlib.Core.Path.{sym, ap}
 use Rattle.model.specs.Rules.{marginOk}
 use Rattle.model.proofs.Margins.{margin-unknown, margin-known}
 use Rattle.stored.specs.Shapes.{limitsBy}
