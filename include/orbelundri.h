@@ -30,9 +30,13 @@ typedef struct {
     uint32_t at;
 } orb_made;
 
-/* number 0: kind is 1, a sample of width bits, 1 to 32. raw is its components joined, the first lowest: 0 to two to the
- * width less 1. value is raw, or for a signed parameter raw minus two to the width where the sample's top bit is set.
- * Else all else is 0. */
+/* number 0: kind is 1, a sample of width bits, 1 to 32, or 2, the same with copies of a bit that differ (below). raw is its
+ * components joined, the first lowest: 0 to two to the width less 1. value is raw, or for a signed parameter raw minus two to the
+ * width where the sample's top bit is set. Else all else is 0.
+ *
+ * Overlap: a component's top bits may stand in the next component too, as many as the sheet says. They count once in width, and
+ * in raw the next component's stand. Kind 2 says that some component is not its bits of raw: the value was counted on between two
+ * components, and the standard calls such a sample invalid. raw, width and value are told all the same. */
 typedef struct {
     uint32_t number;
     uint32_t kind;
@@ -62,24 +66,27 @@ typedef struct {
     uint32_t count;
 } orb_carded;
 
-/* The sheet's table at the front of the bytes lent for it; later bytes stay. It is of form 2: leading or trailing bits that the
- * sheet leaves blank are unknown in it, not 0. Refuses with 1 to 17. */
+/* The sheet's table at the front of the bytes lent for it; later bytes stay. It is of form 3: each component has its overlap, and
+ * leading or trailing bits that the sheet leaves blank are unknown in it, not 0. Refuses with 1 to 17; 14 for an overlap that is not
+ * smaller than its component's bits, larger than the next one's, or the last component's. */
 orb_made orb_make(const uint8_t *sheet, size_t sheet_len, uint8_t *table, size_t table_len);
 
-/* Whether the bytes are a table, of form 1 or 2, whoever made them: 0 or 18. The length is the table's own. By form 1 all is
- * answered as by form 2, but for cards. */
+/* Whether the bytes are a table, of form 1, 2 or 3, whoever made them: 0 or 18. The length is the table's own. Forms 1 and 2 have
+ * no overlap. By them all is answered as by form 3, but for cards by form 1. */
 uint32_t orb_check(const uint8_t *table, size_t table_len);
 
 /* One sample of a frame. Refuses with 18, 21, 22, 19 or 20, tested in this order. */
 orb_sample orb_read(const uint8_t *table, size_t table_len, const uint16_t *words, size_t words_len,
                     uint32_t parameter, uint32_t sample);
 
-/* A raw value, as orb_sample's raw, placed into a frame: 0, or 18, 21, 22, 19, 20 or 23, tested in this order. Other
- * bits stay. For a signed parameter -11 in six bits is placed as 53. */
+/* A raw value, as orb_sample's raw, placed into a frame: 0, or 18, 21, 22, 10, 19, 20 or 23, tested in this order. Other
+ * bits stay. For a signed parameter -11 in six bits is placed as 53. 10: the sample has an overlap; the table's other samples
+ * are placed as ever. */
 uint32_t orb_place(const uint8_t *table, size_t table_len, uint16_t *words, size_t words_len, uint32_t parameter,
                    uint32_t sample, uint64_t value);
 
-/* The frame against its record identifiers. Refuses with 18, 19, 20 or 24, tested in this order. */
+/* The frame against its record identifiers: every component of each must be its bits of the value, so that a copy that differs
+ * is 24 though raw is the value. Refuses with 18, 19, 20 or 24, tested in this order. */
 orb_compared orb_compare(const uint8_t *table, size_t table_len, const uint16_t *words, size_t words_len);
 
 /* The name of the parameter with this number. Refuses with 18 or 21. */
@@ -89,9 +96,9 @@ orb_name orb_name_of(const uint8_t *table, size_t table_len, uint32_t parameter)
 orb_name orb_name_by(const uint8_t *table, size_t table_len, const uint8_t *mnemonic, size_t mnemonic_len);
 
 /* The first frame on a quick access card: the first bit position at which a whole frame fits, its last trailing bit too, and
- * every record identifier agrees. The stream takes the low bit of each byte and of each word first. Refuses with 18, 27 (no
- * parameters), 26 (margins not known), 38 (more than 65,536 bytes), 25 (no such position) or 28 (too few words lent), tested in
- * this order. Words beyond the frame's stay.
+ * every record identifier agrees as in orb_compare. The stream takes the low bit of each byte and of each word first. Refuses with
+ * 18, 27 (no parameters), 26 (margins not known), 38 (more than 65,536 bytes), 25 (no such position) or 28 (too few words lent),
+ * tested in this order. Words beyond the frame's stay.
  *
  * 26: a subframe's leading or trailing bits are unknown, so nobody can tell where its words stand on a card. They are where the
  * sheet leaves them blank, in any subframe, and in every table of form 1, whatever its margins: there a blank was stored as 0.

@@ -29,6 +29,9 @@ orb_carded quick_card_from(const uint8_t *table, size_t table_len, const uint8_t
 /* A margin that is not known, from form 2 on. */
 enum { UNKNOWN = 65535 };
 
+/* From form 3 on a component has an overlap and a zero byte. */
+static inline uint32_t component_size_of(uint32_t form) { return form < 3 ? 6 : 8; }
+
 /* Numbers in a table's bytes, the lowest byte first. */
 static inline uint32_t get2(const uint8_t *t) { return t[0] | (uint32_t)t[1] << 8; }
 

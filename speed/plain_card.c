@@ -18,15 +18,17 @@ typedef struct {
     size_t bits;
 } sieve;
 
+/* Every component is its bits of the value, also those that overlap. */
 static void sift_more(const uint8_t *t, const uint8_t *parameter, const size_t *begins, sieve *s) {
+    uint32_t size = component_size_of(get2(t + 14));
     const uint8_t *sample = t + get4(t + 24) + 8 * get2(parameter + 8);
-    const uint8_t *component = t + get4(t + 28) + 6 * get2(sample + 4);
-    uint32_t rest = get4(parameter + 12);
-    for (uint32_t k = 0; k < get2(sample + 6) && s->count < ROWS; k++, component += 6) {
+    const uint8_t *component = t + get4(t + 28) + size * get2(sample + 4);
+    uint64_t rest = get4(parameter + 12);
+    for (uint32_t k = 0; k < get2(sample + 6) && s->count < ROWS; k++, component += size) {
         uint32_t home = get2(component) - 1u, width = component[5] - component[4] + 1u;
         size_t at = begins[home] + (get2(component + 2) - 1u) * get2(t + 36 + 20 * home) + component[4] - 1u;
-        s->rows[s->count++] = (row){at, width, rest & ((1u << width) - 1)};
-        rest = width == 32 ? 0 : rest >> width;
+        s->rows[s->count++] = (row){at, width, (uint32_t)rest & ((1u << width) - 1)};
+        rest >>= width - (size == 8 ? component[6] : 0u);
     }
 }
 

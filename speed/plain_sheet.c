@@ -25,7 +25,7 @@ typedef struct {
 } sample;
 
 typedef struct {
-    uint32_t subframe, word, low, high;
+    uint32_t subframe, word, low, high, overlap;
 } component;
 
 /* The sheet, the line in hand and its fields, and all that the lines have said so far. */
@@ -357,7 +357,10 @@ static uint32_t records(book *b) {
 
 /* ---- samples ---- */
 
-/* A bit twice in the sample, or a width above 32. */
+static uint32_t bits_of(const component *c) { return c->high - c->low + 1; }
+
+/* A bit twice in the sample, an overlap not below its own bits or, of the one before, above them, or a width above 32. The
+ * width is that of the components so far without the last one's overlap. */
 static uint32_t joins(const book *b, const sample *s, const component *c, uint32_t *width) {
     for (uint32_t k = s->first; k < b->component_count; k++) {
         const component *d = &b->components[k];
@@ -365,23 +368,25 @@ static uint32_t joins(const book *b, const sample *s, const component *c, uint32
             return 14;
         }
     }
-    *width += c->high - c->low + 1;
-    return *width > 32 ? 14 : 0;
+    if (s->count > 0 && c[-1].overlap > bits_of(c)) {
+        return 14;
+    }
+    if (c->overlap >= bits_of(c) || *width + bits_of(c) > 32) {
+        return 14;
+    }
+    *width += bits_of(c) - c->overlap;
+    return 0;
 }
 
 static uint32_t component_line(book *b, sample *s, uint32_t *width) {
     const piece *f = b->fields;
     component *c = &b->components[b->component_count];
-    uint32_t overlap;
     if (s->count == 8 || b->component_count == 4096) {
         return 12;
     }
     TRY(declared(f[0], b->subframe_count, &c->subframe));
     TRY(declared(f[1], b->subframes[c->subframe - 1].words, &c->word));
-    TRY(integer(f[2], 6, 0, 999999, &overlap));
-    if (overlap != 0) {
-        return 10;
-    }
+    TRY(integer(f[2], 6, 0, 999999, &c->overlap));
     TRY(bit_range(f[3], &c->low, &c->high));
     if (c->high > b->subframes[c->subframe - 1].bits) {
         return 13;
@@ -416,7 +421,7 @@ static uint32_t one_sample(book *b, parameter *p) {
         return 5;
     }
     TRY(time_line(b, s));
-    if (p->count > 0 && width != p->width) {
+    if (b->components[b->component_count - 1].overlap != 0 || (p->count > 0 && width != p->width)) {
         return 14;
     }
     p->width = width;
@@ -641,12 +646,12 @@ static uint8_t *put_header(uint8_t *t, const book *b, uint32_t total) {
     put2(t + 8, b->sample_count);
     put2(t + 10, b->component_count);
     put2(t + 12, b->sequential);
-    put2(t + 14, 2);
+    put2(t + 14, 3);
     put4(t + 16, 36);
     put4(t + 20, parameters);
     put4(t + 24, samples);
     put4(t + 28, components);
-    put4(t + 32, components + 6 * b->component_count);
+    put4(t + 32, components + 8 * b->component_count);
     return t + 36;
 }
 
@@ -684,7 +689,9 @@ static uint8_t *put_component(uint8_t *t, const component *c) {
     put2(t + 2, c->word);
     t[4] = (uint8_t)c->low;
     t[5] = (uint8_t)c->high;
-    return t + 6;
+    t[6] = (uint8_t)c->overlap;
+    t[7] = 0;
+    return t + 8;
 }
 
 static uint8_t *put_texts(uint8_t *t, const parameter *p) {
@@ -738,7 +745,7 @@ orb_made plain_make(const uint8_t *sheet, size_t sheet_len, uint8_t *table, size
     if (number != 0) {
         return (orb_made){number, b.line};
     }
-    uint32_t total = 36 + 20 * b.subframe_count + 16 * b.parameter_count + 8 * b.sample_count + 6 * b.component_count +
+    uint32_t total = 36 + 20 * b.subframe_count + 16 * b.parameter_count + 8 * b.sample_count + 8 * b.component_count +
                      b.text_length;
     if (total > table_len) {
         return (orb_made){17, 0};

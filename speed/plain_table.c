@@ -4,7 +4,7 @@
 /* Where the parts of a table begin, and how many entries each has. */
 typedef struct {
     const uint8_t *subframes, *parameters, *samples, *components, *text;
-    uint32_t form, subframe_count, parameter_count, sample_count, component_count, text_length;
+    uint32_t form, component_size, subframe_count, parameter_count, sample_count, component_count, text_length;
 } view;
 
 static bool counts_ok(const view *v) {
@@ -22,13 +22,14 @@ static bool open_table(const uint8_t *t, size_t length, view *v) {
     v->sample_count = get2(t + 8);
     v->component_count = get2(t + 10);
     v->form = get2(t + 14);
-    if (!counts_ok(v) || get2(t + 12) > 1 || v->form < 1 || v->form > 2) {
+    if (!counts_ok(v) || get2(t + 12) > 1 || v->form < 1 || v->form > 3) {
         return false;
     }
+    v->component_size = component_size_of(v->form);
     uint32_t parameters = 36 + 20 * v->subframe_count;
     uint32_t samples = parameters + 16 * v->parameter_count;
     uint32_t components = samples + 8 * v->sample_count;
-    uint32_t text = components + 6 * v->component_count;
+    uint32_t text = components + v->component_size * v->component_count;
     if (get4(t + 16) != 36 || get4(t + 20) != parameters || get4(t + 24) != samples || get4(t + 28) != components ||
         get4(t + 32) != text || text > length) {
         return false;
@@ -47,7 +48,7 @@ static bool seconds_ok(uint64_t above, uint64_t below) {
 }
 
 /* Form 1 has no unknown margin. */
-static bool margin_ok(uint32_t form, uint32_t margin) { return margin <= 4095 || (margin == UNKNOWN && form == 2); }
+static bool margin_ok(uint32_t form, uint32_t margin) { return margin <= 4095 || (margin == UNKNOWN && form != 1); }
 
 static bool subframe_ok(uint32_t form, const uint8_t *f) {
     uint32_t bits = get2(f), words = get2(f + 2);
@@ -81,31 +82,46 @@ static bool component_ok(const view *v, const uint8_t *c) {
     if (subframe < 1 || subframe > v->subframe_count) {
         return false;
     }
+    if (v->component_size == 8 && c[7] != 0) {
+        return false;
+    }
     const uint8_t *f = v->subframes + 20 * (subframe - 1);
     return 1 <= word && word <= get2(f + 2) && 1 <= low && low <= high && high <= get2(f);
 }
+
+/* How many of its top bits stand in the next component too: none before form 3. */
+static uint32_t overlap_of(const view *v, const uint8_t *c) { return v->component_size == 8 ? c[6] : 0; }
 
 /* Two components of one word with a bit in common. */
 static bool clash(const uint8_t *a, const uint8_t *b) {
     return get4(a) == get4(b) && a[4] <= b[5] && b[4] <= a[5];
 }
 
-/* The width of a sample whose components begin here; 0 where one is bad, a bit stands twice or it is too wide. */
+/* The width of a sample whose components begin here; 0 where one is bad, a bit stands twice, an overlap is not below its own
+ * bits or above the next one's, the last one has some, or it is too wide. */
 static uint32_t width_of(const view *v, const uint8_t *components, uint32_t count) {
-    uint32_t width = 0;
+    uint32_t width = 0, overlap = 0;
     for (uint32_t k = 0; k < count; k++) {
-        const uint8_t *c = components + 6 * k;
+        const uint8_t *c = components + v->component_size * k;
         if (!component_ok(v, c)) {
             return 0;
         }
         for (uint32_t i = 0; i < k; i++) {
-            if (clash(components + 6 * i, c)) {
+            if (clash(components + v->component_size * i, c)) {
                 return 0;
             }
         }
-        width += c[5] - c[4] + 1u;
+        uint32_t bits = c[5] - c[4] + 1u;
+        if (overlap > bits) {
+            return 0;
+        }
+        overlap = overlap_of(v, c);
+        if (overlap >= bits) {
+            return 0;
+        }
+        width += bits - overlap;
     }
-    return width <= 32 ? width : 0;
+    return overlap == 0 && width <= 32 ? width : 0;
 }
 
 /* A sample whose first component is the next; its width, or 0. */
@@ -114,7 +130,7 @@ static uint32_t sample_width(const view *v, const uint8_t *s, uint32_t next) {
     if (get4(s) > 999999999 || get2(s + 4) != next || count < 1 || count > 8 || next + count > v->component_count) {
         return 0;
     }
-    return width_of(v, v->components + 6 * next, count);
+    return width_of(v, v->components + v->component_size * next, count);
 }
 
 /* All samples of a parameter have one width. Moves on past their components. */
@@ -188,17 +204,17 @@ static bool names_ok(const view *v) {
 /* The subframe in which an identifier lies: 0 unless it has one sample in one subframe, is unsigned and its value fits. */
 static uint32_t identified(const view *v, const uint8_t *e) {
     const uint8_t *s = v->samples + 8 * get2(e + 8);
-    const uint8_t *components = v->components + 6 * get2(s + 4);
+    const uint8_t *components = v->components + v->component_size * get2(s + 4);
     uint32_t count = get2(s + 6), subframe = get2(components), width = 0;
     if (get2(e + 10) != 1 || (e[3] & 1) != 0) {
         return 0;
     }
     for (uint32_t k = 0; k < count; k++) {
-        const uint8_t *c = components + 6 * k;
+        const uint8_t *c = components + v->component_size * k;
         if (get2(c) != subframe) {
             return 0;
         }
-        width += c[5] - c[4] + 1u;
+        width += c[5] - c[4] + 1u - overlap_of(v, c);
     }
     return (uint64_t)get4(e + 12) >> width == 0 ? subframe : 0;
 }
@@ -269,23 +285,32 @@ static uint32_t fit_of(const view *v, const uint16_t *words, size_t words_len, s
     return words_ok(v, words) ? 0 : 20;
 }
 
-/* The components joined, the least significant first, and the sign. */
+/* The components joined, the least significant first, and the sign. Where two overlap the higher one's bits stand; the kind is 2
+ * where the lower one's are others. */
 static orb_sample join(const view *v, const size_t *before, const uint16_t *words, const uint8_t *s, bool is_signed) {
-    const uint8_t *c = v->components + 6 * get2(s + 4);
-    uint32_t count = get2(s + 6), width = 0;
+    const uint8_t *c = v->components + v->component_size * get2(s + 4);
+    uint32_t count = get2(s + 6), width = 0, overlap = 0, kind = 1;
     uint64_t raw = 0;
-    for (uint32_t k = 0; k < count; k++, c += 6) {
+    for (uint32_t k = 0; k < count; k++, c += v->component_size) {
         uint32_t word = words[before[get2(c) - 1] + get2(c + 2) - 1];
         uint32_t bits = c[5] - c[4] + 1u;
         uint64_t piece = word >> (c[4] - 1) & ((1u << bits) - 1);
+        if (overlap != 0) {
+            width -= overlap;
+            if (raw >> width != (piece & ((1u << overlap) - 1))) {
+                kind = 2;
+            }
+            raw &= ((uint64_t)1 << width) - 1;
+        }
         raw |= piece << width;
         width += bits;
+        overlap = overlap_of(v, c);
     }
     int64_t value = (int64_t)raw;
     if (is_signed && raw >> (width - 1) != 0) {
         value -= (int64_t)1 << width;
     }
-    return (orb_sample){0, 1, width, (uint32_t)raw, value};
+    return (orb_sample){0, kind, width, (uint32_t)raw, value};
 }
 
 orb_sample plain_read(const uint8_t *table, size_t table_len, const uint16_t *words, size_t words_len,

@@ -65,6 +65,17 @@ static void many(uint32_t parameters, uint32_t count) {
     }
 }
 
+/* So many parameters of one sample each, joined of 12 bits with overlap 1 to 11 and 12 bits. */
+static void overlapped(uint32_t parameters, uint32_t count) {
+    opening(count);
+    for (uint32_t i = 1; i < parameters; i++) {
+        named(i);
+        sheet_length += (size_t)sprintf(sheet + sheet_length, "1,%u,%u,1-12\n1,%u,0,1-12\n0\n", 2 + i % (count - 2), 1 + i % 11,
+                                        3 + i % (count - 2));
+        closed();
+    }
+}
+
 /* Sources of the last parameter fill the sheet. */
 static void filled(size_t length) {
     sheet_length--;
@@ -236,6 +247,17 @@ static void measured_frames(const char *size) {
     line("all samples, once checked", size, (c - a) / FRAMES, (d - b) / FRAMES, "1.05");
 }
 
+/* Every parameter's first sample, its kind too. */
+static void same_kinds(const char *size) {
+    uint32_t kinds[3] = {0};
+    for (uint32_t i = 1; i <= get2(proved_table + 6); i++) {
+        orb_sample a = orb_read(proved_table, table_length, words, word_count, i, 1);
+        same(same_sample(a, plain_read(proved_table, table_length, words, word_count, i, 1)), "one read", size);
+        kinds[a.kind]++;
+    }
+    same(kinds[1] > 1 && kinds[2] > 1, "both kinds", size);
+}
+
 static void measured(const char *size) {
     double a, b;
     for (size_t i = 0; i < word_count; i++) {
@@ -295,12 +317,28 @@ static void same_26(const char *size) {
     same(a.number == 26 && same_carded(a, b), "card, 26", size);
 }
 
+/* The made table as form 1 has it, with components of 6 bytes. */
+static void to_form_1(void) {
+    uint8_t *components = proved_table + get4(proved_table + 28), *text = proved_table + get4(proved_table + 32);
+    uint32_t count = get2(proved_table + 10), fewer = 2 * count;
+    for (uint32_t k = 1; k < count; k++) {
+        memcpy(components + 6 * k, components + 8 * k, 6);
+    }
+    for (uint8_t *at = text; at < proved_table + table_length; at++) {
+        *(at - fewer) = *at;
+    }
+    table_length -= fewer;
+    put4(proved_table, (uint32_t)table_length);
+    put2(proved_table + 14, 1);
+    put4(proved_table + 32, get4(proved_table + 32) - fewer);
+}
+
 /* The same table in form 1, and with the last trailing bits unknown. */
 static void same_unknown(const char *size) {
     uint8_t *trailing = proved_table + get4(proved_table + 20) - 14;
-    put2(proved_table + 14, 1);
+    to_form_1();
     same_26(size);
-    put2(proved_table + 14, 2);
+    same_made(size);
     put2(trailing, UNKNOWN);
     same_26(size);
     put2(trailing, 0);
@@ -334,6 +372,9 @@ int main(void) {
     measured("64 KB, 512 parameters");
     sampled_much(64);
     measured("4,096 samples");
+    overlapped(120, 64);
+    measured("120 with overlap");
+    same_kinds("120 with overlap");
     measured_card(1, "64 KB, 1 identifier");
     measured_card(4, "64 KB, 4 identifiers");
     printf("%d differences\n", differences);

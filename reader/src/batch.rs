@@ -12,6 +12,7 @@ use crate::large;
 use crate::lawful;
 use crate::listings::{self, Listing};
 use crate::making;
+use crate::overlap_cases;
 use crate::random::Random;
 use crate::sheets;
 
@@ -110,13 +111,14 @@ fn large_card(random: &mut Random, index: usize, stride: &Stride) -> Option<Case
 
 fn drawn(random: &mut Random) -> Case {
     match random.below(100) {
-        0..=35 => drawn_make(random),
-        36..=51 => check(random),
-        52..=60 => read(random),
-        61..=69 => place(random),
-        70..=75 => compare(random),
-        76..=78 => name(random),
-        79..=82 => mnemonic(random),
+        0..=34 => drawn_make(random),
+        35..=50 => check(random),
+        51..=58 => read(random),
+        59..=66 => place(random),
+        67..=72 => compare(random),
+        73..=75 => name(random),
+        76..=79 => mnemonic(random),
+        80..=84 => overlap_cases::drawn(random),
         _ => card_cases::drawn(random),
     }
 }
@@ -176,32 +178,35 @@ fn lent_near_length(random: &mut Random, sheet: &[u8]) -> usize {
     }
 }
 
-/// A table of either form, mostly a lawful one, and what it was made from.
+/// A table of any form, mostly a lawful one, and what it was made from.
 fn table(random: &mut Random, damaged_percent: usize) -> (Vec<u8>, Contents) {
     let contents =
         if random.percent(60) { lawful::with_parameters(random) } else { lawful::contents(random) };
     if random.percent(damaged_percent) {
         return (damage::damaged(random, &contents), contents);
     }
-    (making::table_of_form(lawful::form(random), &contents), contents)
+    (making::table_of_form(lawful::form(random, &contents), &contents), contents)
 }
 
 fn check(random: &mut Random) -> Case {
     if random.percent(12) {
         let mut contents = lawful::frame_only(random);
         breaks::rule_of_frames(random, &mut contents);
-        return Case::Check { table: making::table_of_form(lawful::form(random), &contents) };
+        return Case::Check { table: making::table_of_form(lawful::form(random, &contents), &contents) };
     }
     if random.percent(9) {
         let contents = lawful::contents(random);
         return Case::Check { table: damage::of_other_form(random, &contents) };
+    }
+    if random.percent(12) {
+        let contents = lawful::with_parameters(random);
+        return Case::Check { table: damage::of_other_overlap(random, &contents) };
     }
     let (table, _) = table(random, 88);
     Case::Check { table }
 }
 
 fn large_table(random: &mut Random, turn: usize) -> Vec<u8> {
-    let form = lawful::form(random);
     let contents = match turn % 5 {
         0 => large::of_parameters(random, 513),
         1 => large::of_components(4097),
@@ -209,14 +214,14 @@ fn large_table(random: &mut Random, turn: usize) -> Vec<u8> {
         3 => large::of_components(4096),
         _ => large::table_above_65536(random),
     };
-    making::table_of_form(form, &contents)
+    making::table_of_form(lawful::form(random, &contents), &contents)
 }
 
 /// The longest frames, or a sample far down in a long table.
 fn large_frame(random: &mut Random, turn: usize) -> Case {
     let contents =
         if turn.is_multiple_of(2) { large::of_words(random) } else { large::of_samples(random, 4096) };
-    let table = making::table_of_form(lawful::form(random), &contents);
+    let table = making::table_of_form(lawful::form(random, &contents), &contents);
     let mut frame = frames::fitting(random, &contents);
     let parameter = random.between(1, contents.parameters.len()) as u32;
     let sample = random.between(1, contents.parameters[parameter as usize - 1].samples.len()) as u32;

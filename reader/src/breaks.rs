@@ -2,6 +2,7 @@
 
 use crate::contents::{Component, Contents, Parameter, Sample};
 use crate::lawful;
+use crate::overlap_breaks::OVERLAPS;
 use crate::random::Random;
 
 type Break = fn(&mut Random, &mut Contents);
@@ -53,6 +54,7 @@ const STORED: &[Break] = &[
     thirty_three_subframes,
     items_missing,
     items_missing,
+    items_missing,
 ];
 
 pub fn rule_of_12_to_15(random: &mut Random, contents: &mut Contents) {
@@ -69,7 +71,7 @@ pub fn clause_of_16(random: &mut Random, contents: &mut Contents) {
 }
 
 pub fn rule_of_tables(random: &mut Random, contents: &mut Contents) {
-    let list = *random.pick(&[SAID, IDENTIFIERS, STORED, STORED, STORED]);
+    let list = *random.pick(&[SAID, IDENTIFIERS, OVERLAPS, STORED, STORED, STORED]);
     random.pick(list)(random, contents);
 }
 
@@ -178,6 +180,7 @@ pub fn all_single_bits(contents: &Contents) -> impl Iterator<Item = Component> +
                 word,
                 low: bit,
                 high: bit,
+                overlap: 0,
             })
         })
     })
@@ -211,7 +214,7 @@ fn identifier_in_two_subframes(random: &mut Random, contents: &mut Contents) {
     let identifier = any_identifier(random, contents);
     let components = &mut identifier.samples[0].components;
     let own = components[0].subframe;
-    let other = Component { subframe: own % count + 1, word: 1, low: 1, high: 1 };
+    let other = Component { subframe: own % count + 1, word: 1, low: 1, high: 1, overlap: 0 };
     if identifier.samples[0].width() < 32 {
         identifier.samples[0].components.push(other);
     } else {
@@ -351,7 +354,7 @@ fn thirty_three_subframes(_: &mut Random, contents: &mut Contents) {
     while contents.subframes.len() < 33 {
         contents.subframes.push(last.clone());
         let subframe = contents.subframes.len() as u16;
-        let component = Component { subframe, word: 1, low: 1, high: 16 };
+        let component = Component { subframe, word: 1, low: 1, high: 16, overlap: 0 };
         let taken: Vec<u32> = contents.parameters.iter().filter_map(|p| p.identifier).collect();
         let Some(value) = (0..1 << 16).find(|value| !taken.contains(value)) else { return };
         contents.parameters.push(Parameter {

@@ -25,6 +25,7 @@ pub fn drawn(random: &mut Random) -> Case {
     let table = match random.below(100) {
         0..=4 => damage::damaged(random, &contents),
         5..=12 => making::table_of_form(1, &contents),
+        13..=19 => making::table_of_form(2, &contents),
         _ => making::table_bytes(&contents),
     };
     let lent = lent(random, &contents);
@@ -84,7 +85,8 @@ pub fn too_long_and_refused(random: &mut Random, turn: usize) -> Case {
         1 => streams::of_unknown_margins(random),
         _ => streams::contents(random),
     };
-    let mut table = making::table_of_form(if turn % 4 == 2 { 1 } else { 2 }, &contents);
+    let form = if turn % 4 == 2 && !contents.has_overlap() { 1 } else { 3 };
+    let mut table = making::table_of_form(form, &contents);
     if turn % 4 == 3 {
         table.pop();
     }

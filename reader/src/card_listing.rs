@@ -61,6 +61,9 @@ fn put_rows(text: &mut Vec<u8>, contents: &Contents, position: usize, words: &[u
     for parameter in &contents.parameters {
         for (index, sample) in parameter.samples.iter().enumerate() {
             let answer = reading::answer(contents, sample, parameter.signed, words);
+            if wrongly(Wrong::CardsOverlap) && answer.kind == 2 {
+                continue;
+            }
             text.extend(format!("{position},").bytes());
             text.extend(&parameter.name);
             let row = format!(",{},{},{},{}\n", index + 1, answer.width, answer.raw, answer.value);

@@ -4,7 +4,7 @@
 //! subframe is its leading bits, its words, its trailing bits.
 
 use crate::checking::{self, Table};
-use crate::contents::{Contents, Subframe};
+use crate::contents::{Component, Contents, Sample, Subframe};
 use crate::limits;
 use crate::wrong::{wrongly, Wrong};
 
@@ -145,6 +145,15 @@ fn word_bits(contents: &Contents, index: usize) -> usize {
     usize::from(contents.subframes[index].bits)
 }
 
+/// Where an identifier's components stand in its value.
+fn places(sample: &Sample) -> Vec<u32> {
+    if !wrongly(Wrong::CardOverlapNone) {
+        return sample.places();
+    }
+    let before = |index: usize| sample.components[..index].iter().map(Component::bits).sum();
+    (0..sample.components.len()).map(before).collect()
+}
+
 /// A stream, and where a frame of these contents has what.
 struct Card<'c> {
     contents: &'c Contents,
@@ -178,20 +187,24 @@ impl Card<'_> {
         self.starts[subframe] + word * bits + bit
     }
 
-    /// Each identifier's bits as its value has them, the lowest first.
+    /// Each identifier's bits as its value has them.
     fn identifier_bits(&self) -> Vec<(usize, bool)> {
         let mut due = Vec::new();
         for parameter in &self.contents.parameters {
             let Some(value) = parameter.identifier else { continue };
-            let mut rest = u64::from(value);
-            for component in &parameter.samples[0].components {
+            let sample = &parameter.samples[0];
+            for (component, first) in sample.components.iter().zip(places(sample)) {
                 if wrongly(Wrong::CardFirstIdentifier) && component.subframe != 1 {
                     continue;
                 }
                 let [subframe, word] = [component.subframe, component.word].map(|n| usize::from(n) - 1);
-                for bit in component.low..=component.high {
-                    due.push((self.place(subframe, word, usize::from(bit) - 1), rest % 2 == 1));
-                    rest /= 2;
+                let copies = if wrongly(Wrong::CardOverlapRaw) { component.overlap } else { 0 };
+                for bit in 0..component.bits() - copies {
+                    let set = u64::from(value) >> (first + bit) & 1 == 1;
+                    due.push((
+                        self.place(subframe, word, (u32::from(component.low) - 1 + bit) as usize),
+                        set,
+                    ));
                 }
             }
         }
@@ -280,7 +293,8 @@ mod tests {
             let unknown = turn % 2 == 0;
             let drawn = if unknown { streams::of_unknown_margins } else { streams::contents };
             let contents = drawn(&mut random);
-            for form in [1, 2] {
+            let forms = if contents.has_overlap() { 3..=3 } else { 1..=3 };
+            for form in forms {
                 let table = making::table_of_form(form, &contents);
                 let refused = form == 1 || unknown;
                 let bits = if refused { 0 } else { frame_length(&contents) };

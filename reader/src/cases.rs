@@ -95,8 +95,10 @@ impl Case {
             Case::Check { table } => format!("2 {}", if checking::check(table).is_some() { 0 } else { 18 }),
             Case::Read { table, frame, parameter, sample } => {
                 match reading::read(table, frame, *parameter, *sample) {
-                    Ok(answer) => format!("3 0 {} {} {}", answer.width, answer.raw, answer.value),
-                    Err(number) => format!("3 {number} 0 0 0"),
+                    Ok(answer) => {
+                        format!("3 0 {} {} {} {}", answer.kind, answer.width, answer.raw, answer.value)
+                    }
+                    Err(number) => format!("3 {number} 0 0 0 0"),
                 }
             }
             Case::Place { table, frame, parameter, sample, value } => {

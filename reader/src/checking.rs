@@ -3,8 +3,9 @@
 use crate::contents::{Component, Contents, Parameter, Sample, Subframe};
 use crate::fields::equal_names;
 use crate::identifiers;
+use crate::joining;
 use crate::limits;
-use crate::making::{self, COMPONENT_SIZE, HEADER_SIZE, PARAMETER_SIZE, SAMPLE_SIZE, SUBFRAME_SIZE};
+use crate::making::{self, HEADER_SIZE, PARAMETER_SIZE, SAMPLE_SIZE, SUBFRAME_SIZE};
 use crate::seconds::greatest_common_divisor;
 use crate::shortest;
 use crate::wrong::{wrongly, Wrong};
@@ -92,7 +93,7 @@ impl Header {
         limit(flags <= 1, Wrong::B62a)?;
         let form = get2(bytes, 14);
         require(form_is_known(form))?;
-        let offsets = making::offsets(subframes, parameters, samples, components);
+        let offsets = making::offsets(form, [subframes, parameters, samples, components]);
         offsets_are_stored(bytes, &offsets)?;
         require(offsets[4] <= bytes.len())?;
         Some(Header { subframes, parameters, samples, components, flags, form, offsets })
@@ -102,8 +103,9 @@ impl Header {
 fn form_is_known(form: usize) -> bool {
     match form {
         1 => !wrongly(Wrong::TableFormOne),
-        2 => true,
-        3 if wrongly(Wrong::TableFormThree) => true,
+        2 => !wrongly(Wrong::TableFormTwo),
+        3 => !wrongly(Wrong::TableFormThree),
+        4 if wrongly(Wrong::TableFormFour) => true,
         _ => wrongly(Wrong::TableForm),
     }
 }
@@ -205,15 +207,20 @@ impl Parts<'_> {
 
     fn component(&self, next: &mut Next) -> Option<Component> {
         require(next.component < self.header.components)?;
-        let entry = self.entry(3, next.component, COMPONENT_SIZE);
+        let size = making::component_size(self.header.form);
+        let entry = self.entry(3, next.component, size);
         next.component += 1;
-        Some(Component {
-            subframe: get2(entry, 0) as u16,
-            word: get2(entry, 2) as u16,
-            low: get1(entry, 4),
-            high: get1(entry, 5),
-        })
+        let [subframe, word] = [0, 2].map(|at| get2(entry, at) as u16);
+        let [low, high] = [4, 5].map(|at| get1(entry, at));
+        let overlap = if size == 8 { overlap(entry)? } else { 0 };
+        Some(Component { subframe, word, low, high, overlap })
     }
+}
+
+/// The byte after it must be 0.
+fn overlap(entry: &[u8]) -> Option<u32> {
+    limit(get1(entry, 7) == 0, Wrong::TableZeroByte)?;
+    Some(u32::from(get1(entry, 6)))
 }
 
 /// Where the next sample, component and text must begin.
@@ -301,7 +308,9 @@ fn samples_are_sound(parameters: &[Parameter]) -> bool {
         let width_is_sound = width <= limits::width() as u32 || wrongly(Wrong::B60j);
         let widths_are_equal = parameter.samples.iter().all(|sample| sample.width() == width);
         let bits_are_single = parameter.samples.iter().all(Sample::no_bit_twice);
+        let overlaps_are_sound = parameter.samples.iter().all(joining::overlaps_are_sound);
         width_is_sound
+            && overlaps_are_sound
             && (widths_are_equal || wrongly(Wrong::TableUnequalWidth))
             && (bits_are_single || wrongly(Wrong::TableBitTwice))
     })

@@ -37,10 +37,11 @@ pub fn first_differing(contents: &Contents, frame: &[u16]) -> Option<u16> {
     differing.min()
 }
 
-/// The subframe of an identifier whose raw value isn't the one declared.
+/// The subframe of an identifier that isn't the value declared: every
+/// component must be its bits of it.
 fn differing_subframe(contents: &Contents, parameter: &Parameter, frame: &[u16]) -> Option<u16> {
     let value = parameter.identifier?;
     let sample = &parameter.samples[0];
-    let raw = reading::raw_value(contents, sample, frame);
-    (raw != u64::from(value)).then_some(sample.components[0].subframe)
+    let agrees = reading::agrees(contents, sample, frame, u64::from(value));
+    (!agrees).then_some(sample.components[0].subframe)
 }

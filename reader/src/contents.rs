@@ -52,6 +52,8 @@ pub struct Component {
     pub word: u16,
     pub low: u8,
     pub high: u8,
+    /// How many of its top bits stand in the next component too.
+    pub overlap: u32,
 }
 
 impl Subframe {
@@ -62,7 +64,8 @@ impl Subframe {
 }
 
 impl Component {
-    pub fn width(&self) -> u32 {
+    /// How many bits it has.
+    pub fn bits(&self) -> u32 {
         u32::from(self.high) + 1 - u32::from(self.low)
     }
 
@@ -74,15 +77,18 @@ impl Component {
 }
 
 impl Sample {
-    pub fn width(&self) -> u32 {
-        self.components.iter().map(Component::width).sum()
+    pub fn has_overlap(&self) -> bool {
+        self.components.iter().any(|component| component.overlap != 0)
     }
 
     pub fn no_bit_twice(&self) -> bool {
         let components = &self.components;
-        (0..components.len()).all(|later| {
-            components[..later].iter().all(|earlier| !earlier.shares_a_bit_with(&components[later]))
-        })
+        let shares = |earlier: usize, later: usize| {
+            let copies = earlier + 1 == later && components[earlier].overlap != 0;
+            let allowed = wrongly(Wrong::OverlapSameBits) && copies;
+            !allowed && components[earlier].shares_a_bit_with(&components[later])
+        };
+        (0..components.len()).all(|later| !(0..later).any(|earlier| shares(earlier, later)))
     }
 
     pub fn shares_a_bit_with(&self, other: &Sample) -> bool {
@@ -99,6 +105,10 @@ impl Contents {
     pub fn component_count(&self) -> usize {
         let samples = self.parameters.iter().flat_map(|p| &p.samples);
         samples.map(|s| s.components.len()).sum()
+    }
+
+    pub fn has_overlap(&self) -> bool {
+        self.parameters.iter().flat_map(|p| &p.samples).any(Sample::has_overlap)
     }
 
     /// Words of a whole frame.

@@ -8,7 +8,7 @@ use crate::random::Random;
 
 /// The table of the contents, damaged in one way.
 pub fn damaged(random: &mut Random, contents: &Contents) -> Vec<u8> {
-    let form = lawful::form(random);
+    let form = lawful::form(random, contents);
     let mut table = making::table_of_form(form, contents);
     if random.percent(60) {
         let mut broken = contents.clone();
@@ -25,7 +25,7 @@ pub fn damaged(random: &mut Random, contents: &Contents) -> Vec<u8> {
         5 | 6 => parameter_field(random, contents, &mut table),
         7 | 8 => sample_or_component(random, contents, &mut table),
         9 => left_over(random, contents, &mut table),
-        10 => form_and_margin(random, contents, &mut table),
+        10 => return of_other_form(random, contents),
         _ => any_byte(random, &mut table),
     }
     table
@@ -33,8 +33,33 @@ pub fn damaged(random: &mut Random, contents: &Contents) -> Vec<u8> {
 
 /// The table of the contents, with another form or margin, lawful or not.
 pub fn of_other_form(random: &mut Random, contents: &Contents) -> Vec<u8> {
-    let mut table = making::table_of_form(lawful::form(random), contents);
-    form_and_margin(random, contents, &mut table);
+    let stored = *random.pick(&[0, 1, 1, 2, 2, 3, 3, 3, 4, 4, 257, 258, 259]);
+    let laid_out = if stored == 1 || stored == 2 { stored } else { 3 };
+    let mut table = making::table_of_form(laid_out, contents);
+    put(&mut table, 14, stored, 2);
+    if random.percent(70) {
+        let index = random.below(contents.subframes.len());
+        let margin = part_start(&table, 0) + making::SUBFRAME_SIZE * index + random.pick(&[4, 6]);
+        put(&mut table, margin, *random.pick(&[0, 4095, 4096, 65_534, 65_535, 65_535]), 2);
+    }
+    table
+}
+
+/// The table of the contents, with one component's overlap or zero byte
+/// changed, lawfully or not: about its own bits and the next one's.
+pub fn of_other_overlap(random: &mut Random, contents: &Contents) -> Vec<u8> {
+    let mut table = making::table_of_form(3, contents);
+    let index = random.below(contents.component_count());
+    let entry = part_start(&table, 3) + making::component_size(3) * index;
+    let bits = |table: &[u8], entry: usize| table[entry + 5] + 1 - table[entry + 4];
+    let own = bits(&table, entry);
+    let is_last = index + 1 == contents.component_count();
+    let next = if is_last { 0 } else { bits(&table, entry + making::component_size(3)) };
+    match random.below(5) {
+        0 => table[entry + 7] = *random.pick(&[1, 1, 2, 128, 255]),
+        1 | 2 => table[entry + 6] = *random.pick(&[next, next + 1, next + 1]),
+        _ => table[entry + 6] = *random.pick(&[0, 1, 1, own - 1, own, own + 1, 16, 17, 32, 255]),
+    }
     table
 }
 
@@ -93,15 +118,15 @@ fn offset(random: &mut Random, table: &mut [u8]) {
     change(random, table, at, 4);
 }
 
-fn part_start(contents: &Contents, part: usize) -> usize {
-    let samples = contents.sample_count();
-    let components = contents.component_count();
-    making::offsets(contents.subframes.len(), contents.parameters.len(), samples, components)[part]
+/// Where a part begins, by the table's header.
+fn part_start(table: &[u8], part: usize) -> usize {
+    let at = 16 + 4 * part;
+    u32::from_le_bytes([table[at], table[at + 1], table[at + 2], table[at + 3]]) as usize
 }
 
 fn subframe_field(random: &mut Random, contents: &Contents, table: &mut [u8]) {
     let index = random.below(contents.subframes.len());
-    let entry = part_start(contents, 0) + making::SUBFRAME_SIZE * index;
+    let entry = part_start(table, 0) + making::SUBFRAME_SIZE * index;
     let (at, size) = *random.pick(&[(0, 2), (2, 2), (4, 2), (6, 2), (8, 8), (16, 4)]);
     change(random, table, entry + at, size);
 }
@@ -111,7 +136,7 @@ fn parameter_field(random: &mut Random, contents: &Contents, table: &mut [u8]) {
         return header_field(random, table);
     }
     let index = random.below(contents.parameters.len());
-    let entry = part_start(contents, 1) + making::PARAMETER_SIZE * index;
+    let entry = part_start(table, 1) + making::PARAMETER_SIZE * index;
     match random.below(9) {
         0 => table[entry + 3] ^= *random.pick(&[1, 2, 4, 8, 128]),
         1 => table[entry + 3] |= *random.pick(&[4, 16, 64]),
@@ -134,48 +159,41 @@ fn sample_or_component(random: &mut Random, contents: &Contents, table: &mut [u8
     }
     if random.percent(60) {
         let index = random.below(contents.sample_count());
-        let entry = part_start(contents, 2) + making::SAMPLE_SIZE * index;
+        let entry = part_start(table, 2) + making::SAMPLE_SIZE * index;
         let (at, size) = *random.pick(&[(0, 4), (4, 2), (6, 2)]);
         return change(random, table, entry + at, size);
     }
     let index = random.below(contents.component_count());
-    let entry = part_start(contents, 3) + making::COMPONENT_SIZE * index;
-    let (at, size) = *random.pick(&[(0, 2), (2, 2), (4, 1), (5, 1)]);
+    let component_size = making::component_size(usize::from(table[14]));
+    let entry = part_start(table, 3) + component_size * index;
+    let (at, size) = *random.pick(&[(0, 2), (2, 2), (4, 1), (5, 1), (6, 1), (7, 1)]);
+    let (at, size) = if at < component_size { (at, size) } else { (4, 1) };
     change(random, table, entry + at, size);
 }
 
 /// A sample or a component that no parameter counts, and all else in order.
 fn left_over(random: &mut Random, contents: &Contents, table: &mut Vec<u8>) {
+    let form = usize::from(table[14]);
     let samples = contents.sample_count();
     let components = contents.component_count();
     let more = if random.percent(50) { (1, 0) } else { (0, 1) };
-    let end = part_start(contents, if more == (1, 0) { 3 } else { 4 });
+    let end = part_start(table, if more == (1, 0) { 3 } else { 4 });
     let entry: Vec<u8> = if more == (1, 0) {
         let first = (components as u16).to_le_bytes();
         [&[0; 4], &first[..], &[0; 2]].concat()
     } else {
-        vec![1, 0, 1, 0, 1, 1]
+        [1, 0, 1, 0, 1, 1, 0, 0][..making::component_size(form)].to_vec()
     };
     table.splice(end..end, entry);
     let (samples, components) = (samples + more.0, components + more.1);
-    let offsets = making::offsets(contents.subframes.len(), contents.parameters.len(), samples, components);
+    let counts = [contents.subframes.len(), contents.parameters.len(), samples, components];
+    let offsets = making::offsets(form, counts);
     let total = table.len();
     put(table, 0, total, 4);
     put(table, 8, samples, 2);
     put(table, 10, components, 2);
     for (part, offset) in offsets.into_iter().enumerate() {
         put(table, 16 + 4 * part, offset, 4);
-    }
-}
-
-/// A form that is known or not, and a margin at the bounds of either form.
-fn form_and_margin(random: &mut Random, contents: &Contents, table: &mut [u8]) {
-    let entry = part_start(contents, 0) + making::SUBFRAME_SIZE * random.below(contents.subframes.len());
-    if random.percent(70) {
-        put(table, entry + random.pick(&[4, 6]), *random.pick(&[0, 4095, 4096, 65_534, 65_535, 65_535]), 2);
-    }
-    if random.percent(60) {
-        put(table, 14, *random.pick(&[0, 1, 1, 2, 2, 3, 3, 257, 258]), 2);
     }
 }
 

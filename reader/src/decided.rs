@@ -67,10 +67,14 @@ fn fields_left_to_right() {
     let component = |fields: &str| verdict(with("1,2,0,1-4", fields)).0;
     assert_eq!(component("1,x,0,0"), 6);
     assert_eq!(component("9,x,0,1"), 13);
-    assert_eq!(component("1,1,1,0"), 10);
+    assert_eq!(component("1,1,x,0"), 6);
+    assert_eq!(component("1,1,1,0"), 11);
+    assert_eq!(component("1,2,,1-4"), 8);
     assert_eq!(component("1,2,000,1-4"), 0);
+    assert_eq!(component("1,2,2,1-4"), 0);
+    assert_eq!(component("1,2,3,1-4"), 14);
     assert_eq!(component("1,2,0000000,1-4"), 6);
-    assert_eq!(component("1,2,999999,1-4"), 10);
+    assert_eq!(component("1,2,999999,1-4"), 14);
     assert_eq!(component("40,2,0,1-4"), 13);
     assert_eq!(component("0,2,0,1-4"), 11);
     assert_eq!(component("1,5,0,1-4"), 13);
@@ -155,7 +159,7 @@ fn a_table_may_exceed_its_sheet() {
     let contents = large::table_above_65536(&mut Random::seeded(6));
     let sheet = large::plain_sheet(&contents);
     assert!(sheet.len() <= 65_536);
-    assert_eq!(judge(&sheet).map(|contents| making::table_bytes(&contents).len()), Ok(67_236));
+    assert_eq!(judge(&sheet).map(|contents| making::table_bytes(&contents).len()), Ok(75_428));
 }
 
 #[test]
@@ -200,38 +204,43 @@ fn margins_known_and_unknown() {
 #[test]
 fn tables_of_each_form() {
     let accepted = |form: u16, leading: u16, trailing: u16| {
-        let mut table =
-            judge(WALL.as_bytes()).map(|contents| making::table_bytes(&contents)).unwrap_or_default();
+        let laid_out = if form == 1 || form == 2 { form.into() } else { 3 };
+        let table = judge(WALL.as_bytes()).map(|contents| making::table_of_form(laid_out, &contents));
+        let mut table = table.unwrap_or_default();
         table[14..16].copy_from_slice(&form.to_le_bytes());
         table[40..42].copy_from_slice(&leading.to_le_bytes());
         table[42..44].copy_from_slice(&trailing.to_le_bytes());
         checking::check(&table).is_some()
     };
-    for margin in [0, 4095] {
-        assert!(accepted(1, margin, 0) && accepted(2, 0, margin), "{margin}");
+    for form in [1, 2, 3] {
+        for margin in [0, 4095, 4096, 65_534, 65_535] {
+            let due = margin <= 4095 || (margin == 65_535 && form != 1);
+            let each = [accepted(form, margin, 0), accepted(form, 0, margin)];
+            assert_eq!(each, [due; 2], "{form} {margin}");
+        }
     }
-    for margin in [4096, 65_534] {
-        let each =
-            [accepted(1, margin, 0), accepted(1, 0, margin), accepted(2, margin, 0), accepted(2, 0, margin)];
-        assert_eq!(each, [false; 4], "{margin}");
-    }
-    assert!(!accepted(1, 65_535, 0) && !accepted(1, 0, 65_535));
-    assert!(accepted(2, 65_535, 0) && accepted(2, 0, 65_535));
-    for form in [0, 3, 4, 257, 258, 65_535] {
+    for form in [0, 4, 257, 258, 259, 65_535] {
         assert!(!accepted(form, 0, 0), "{form}");
     }
 }
 
+/// Every lawful content is its sheet's and its newest table's; an older
+/// table's where it has no overlap, and in form 1 no unknown margin.
 #[test]
 fn lawful_sheets_say_what_they_were_made_from() {
     let mut random = Random::seeded(7);
+    let mut overlapped = 0;
     for _ in 0..2000 {
         let mut contents = lawful::contents(&mut random);
         let sheet = draft::spell(&mut random, &contents).bytes(&mut random);
         assert_eq!(judge(&sheet).as_ref(), Ok(&contents));
         let checked = |table: &[u8]| checking::check(table).map(|table| table.contents);
-        let newest = making::table_bytes(&contents);
-        assert_eq!(checked(&newest).as_ref(), Some(&contents));
+        assert_eq!(checked(&making::table_bytes(&contents)).as_ref(), Some(&contents));
+        if contents.has_overlap() {
+            overlapped += 1;
+            continue;
+        }
+        assert_eq!(checked(&making::table_of_form(2, &contents)).as_ref(), Some(&contents));
         let first = making::table_of_form(1, &contents);
         for subframe in &mut contents.subframes {
             subframe.leading = subframe.leading.or(Some(0));
@@ -239,4 +248,5 @@ fn lawful_sheets_say_what_they_were_made_from() {
         }
         assert_eq!(checked(&first), Some(contents));
     }
+    assert!(overlapped > 200);
 }

@@ -262,11 +262,10 @@ fn spell_sample(random: &mut Random, draft: &mut Draft, contents: &Contents, sam
 }
 
 pub fn component_line(random: &mut Random, contents: &Contents, component: &Component) -> DraftLine {
-    let overlap = if random.percent(5) { "000" } else { "0" };
     let fields = vec![
         number(random, u64::from(component.subframe)),
         number(random, u64::from(component.word)),
-        overlap.as_bytes().to_vec(),
+        number(random, u64::from(component.overlap)),
         bits(random, component.low, component.high),
     ];
     let mut line = DraftLine::of(Kind::Component, fields);

@@ -47,15 +47,15 @@ fn refusal(sheet: &str) -> Refusal {
 }
 
 #[test]
-fn wall_sheet_has_25_lines_and_134_bytes() {
+fn wall_sheet_has_25_lines_and_140_bytes() {
     assert_eq!(WALL.lines().count(), 25);
     let table = wall_table();
-    assert_eq!(table.len(), 134);
+    assert_eq!(table.len(), 140);
     let offsets: Vec<u32> =
         table[16..36].chunks(4).map(|c| u32::from_le_bytes(c.try_into().unwrap())).collect();
-    assert_eq!(offsets, [36, 56, 88, 104, 122]);
-    assert_eq!(&table[122..], b"SyncPitchPCH");
-    assert_eq!((&table[14..16], &table[40..44]), (&[2, 0][..], &[255; 4][..]));
+    assert_eq!(offsets, [36, 56, 88, 104, 128]);
+    assert_eq!(&table[128..], b"SyncPitchPCH");
+    assert_eq!((&table[14..16], &table[40..44]), (&[3, 0][..], &[255; 4][..]));
     assert!(checking::check(&table).is_some());
 }
 
@@ -143,8 +143,8 @@ fn seconds() {
 fn names() {
     let table = wall_table();
     let part = naming::by_mnemonic(&table, b"PCH").unwrap();
-    assert_eq!((part.start, part.length), (126, 5));
+    assert_eq!((part.start, part.length), (132, 5));
     assert_eq!(naming::by_mnemonic(&table, b""), Err(21));
-    assert_eq!(naming::by_number(&table, 1).unwrap().start, 122);
+    assert_eq!(naming::by_number(&table, 1).unwrap().start, 128);
     assert_eq!(naming::by_number(&table, 3), Err(21));
 }

@@ -183,17 +183,10 @@ pub fn component(line: &Line, subframes: &[Subframe]) -> Result<Component, Refus
         judged.see(place(line.fields[0], subframes.len() as u64, Wrong::B18a, limits::subframes()));
     let declared = declared(subframes, subframe);
     let word = judged.see(place(line.fields[1], u64::from(declared.words), Wrong::B18b, limits::words()));
-    let overlap = overlap(line.fields[2]);
-    let late = wrongly(Wrong::B17c) && overlap == Err(10);
-    if !late {
-        judged.see(overlap);
-    }
+    let overlap = judged.see(overlap(line.fields[2])) as u32;
     let (low, high) = judged.see(component_bits(line.fields[3], u64::from(declared.bits)));
-    if late {
-        judged.see(overlap);
-    }
     judged.verdict()?;
-    Ok(Component { subframe: subframe as u16, word: word as u16, low: low as u8, high: high as u8 })
+    Ok(Component { subframe: subframe as u16, word: word as u16, low: low as u8, high: high as u8, overlap })
 }
 
 /// What holds for the named subframe; where the number was refused, the
@@ -219,29 +212,22 @@ fn place(field: &[u8], declared: u64, limit_switch: Wrong, limit: usize) -> Resu
     }
 }
 
-/// Overlap: 8, 6, then 10 where it is not zero.
-fn overlap(field: &[u8]) -> Result<(), u8> {
-    if wrongly(Wrong::B17d)
-        && field != b"0"
-        && !field.is_empty()
-        && spelling::digits(field, limits::digits()).is_some()
-    {
-        return Err(10);
+/// Overlap: 8, 6.
+fn overlap(field: &[u8]) -> Result<u64, u8> {
+    if wrongly(Wrong::B17d) && field.is_empty() {
+        return Ok(0);
     }
     let value = match spelling::integer(field, limits::digits()) {
         Err(6) if wrongly(Wrong::B17b) => return Err(10),
         judged => judged?,
     };
-    if value == 0 || wrongly(Wrong::D25) {
-        return Ok(());
-    }
-    if wrongly(Wrong::B17a) {
-        return Err(11);
-    }
-    if wrongly(Wrong::B17e) && value > limits::word_bits() as u64 {
-        Err(13)
-    } else {
-        Err(10)
+    let above = value > limits::word_bits() as u64;
+    match () {
+        _ if wrongly(Wrong::B17a) && value > 0 => Err(10),
+        _ if wrongly(Wrong::B17c) && above => Err(14),
+        _ if wrongly(Wrong::B17e) && above => Err(13),
+        _ if wrongly(Wrong::B17f) && above => Err(11),
+        _ => Ok(value),
     }
 }
 

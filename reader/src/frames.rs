@@ -1,10 +1,11 @@
 //! Frames for given contents: fitting ones and spoiled ones.
 
-use crate::contents::Contents;
+use crate::contents::{Component, Contents, Sample};
 use crate::placing;
 use crate::random::Random;
 
-/// A fitting frame; in most cases with every identifier in its place.
+/// A fitting frame; in most cases with every identifier in its place, and
+/// with copies that agree in about half of the samples with overlap.
 pub fn fitting(random: &mut Random, contents: &Contents) -> Vec<u16> {
     let style = random.below(6);
     let mut frame = Vec::new();
@@ -18,10 +19,37 @@ pub fn fitting(random: &mut Random, contents: &Contents) -> Vec<u16> {
             });
         }
     }
+    place_overlapped(random, contents, &mut frame);
     if random.percent(75) {
         place_identifiers(contents, &mut frame);
     }
     frame
+}
+
+/// A value in some samples with overlap; now and then one copy of a bit is off.
+fn place_overlapped(random: &mut Random, contents: &Contents, frame: &mut [u16]) {
+    let samples = contents.parameters.iter().flat_map(|p| &p.samples);
+    for sample in samples.filter(|sample| sample.has_overlap()) {
+        if random.percent(75) {
+            let value = random.next() % (1 << sample.width());
+            placing::write(contents, sample, frame, value);
+            if random.percent(35) {
+                one_copy_off(random, contents, sample, frame);
+            }
+        }
+    }
+}
+
+/// Turns a bit of a component that the next one has too, which leaves the raw
+/// value as it is.
+pub fn one_copy_off(random: &mut Random, contents: &Contents, sample: &Sample, frame: &mut [u16]) {
+    let overlapping: Vec<&Component> = sample.components.iter().filter(|c| c.overlap > 0).collect();
+    if overlapping.is_empty() {
+        return;
+    }
+    let component = *random.pick(&overlapping);
+    let from_top = if random.percent(50) { 0 } else { random.below(component.overlap as usize) as u8 };
+    frame[contents.word_place(component)] ^= 1 << (component.high - 1 - from_top);
 }
 
 pub fn place_identifiers(contents: &Contents, frame: &mut [u16]) {
@@ -81,6 +109,10 @@ pub fn differing(random: &mut Random, contents: &Contents) -> Vec<u16> {
     for (index, parameter) in identifiers.iter().enumerate() {
         if all || index == chosen || random.percent(15) {
             let sample = &parameter.samples[0];
+            if sample.has_overlap() && random.percent(50) {
+                one_copy_off(random, contents, sample, &mut frame);
+                continue;
+            }
             let flipped =
                 u64::from(parameter.identifier.unwrap_or(0)) ^ 1 << random.below(sample.width() as usize);
             placing::write(contents, sample, &mut frame, flipped);

@@ -1,6 +1,6 @@
 //! The rule on record identifiers: refusal 16.
 
-use crate::contents::{Contents, Parameter, Refusal};
+use crate::contents::{Contents, Parameter, Refusal, Sample};
 use crate::wrong::{wrongly, Wrong};
 
 /// Judges the identifiers in the order of parameters, then whether every
@@ -80,7 +80,9 @@ fn lies_in_one_subframe(parameter: &Parameter) -> bool {
 /// Always so for a parameter that is no identifier.
 pub fn value_fits(parameter: &Parameter) -> bool {
     let Some(value) = parameter.identifier else { return true };
-    parameter.samples.first().is_some_and(|sample| u64::from(value) >> sample.width().min(63) == 0)
+    let sum = wrongly(Wrong::OverlapValueSum);
+    let width = |sample: &Sample| if sum { sample.all_bits() } else { sample.width() };
+    parameter.samples.first().is_some_and(|sample| u64::from(value) >> width(sample).min(63) == 0)
 }
 
 fn equal_values(one: &Parameter, other: &Parameter) -> bool {

@@ -3,6 +3,7 @@
 use crate::contents::{Contents, Parameter, Refusal, Sample, Subframe};
 use crate::fields;
 use crate::identifiers;
+use crate::joining;
 use crate::limits;
 use crate::lines::{Line, Lines};
 use crate::spelling;
@@ -252,10 +253,10 @@ impl<'s> Judge<'s> {
         self.components += 1;
         let sample = self.current_sample();
         sample.components.push(component);
-        if !wrongly(Wrong::B20a) && !sample.no_bit_twice() {
-            return Err(line.refused(14));
+        if wrongly(Wrong::OverlapNextOwnLine) && !joining::overlap_before_fits(sample) {
+            return Err(Refusal { number: 14, line: line.number - 1 });
         }
-        if !wrongly(Wrong::B20b) && sample.width() > limits::width() as u32 {
+        if !joining::component_is_sound(sample) {
             return Err(line.refused(14));
         }
         if wrongly(Wrong::B48b) && self.shares_a_bit_with_an_earlier_parameter() {
@@ -275,10 +276,17 @@ impl<'s> Judge<'s> {
         if wrongly(Wrong::B20c) && !self.width_is_the_first_samples() {
             return Err(line.refused(14));
         }
+        if wrongly(Wrong::OverlapBeforeTime) && !joining::sample_is_sound(self.current_sample()) {
+            return Err(line.refused(14));
+        }
         let time = spelling::time(line.fields[0]).map_err(|number| line.refused(number))?;
         self.current_sample().time = time;
         self.wrong_findings_at_the_time_line(line)?;
-        if self.width_is_the_first_samples() {
+        let sound = joining::sample_is_sound(self.current_sample());
+        if !sound && wrongly(Wrong::OverlapLastOwnLine) {
+            return Err(Refusal { number: 14, line: line.number - 1 });
+        }
+        if sound && self.width_is_the_first_samples() {
             Ok(())
         } else {
             Err(line.refused(14))
@@ -287,7 +295,7 @@ impl<'s> Judge<'s> {
 
     fn width_is_the_first_samples(&mut self) -> bool {
         let samples = &self.current().samples;
-        samples[0].width() == samples[samples.len() - 1].width()
+        joining::widths_are_equal(&samples[0], &samples[samples.len() - 1])
     }
 
     fn wrong_findings_at_the_time_line(&mut self, line: &Line) -> Result<(), Refusal> {
@@ -299,12 +307,7 @@ impl<'s> Judge<'s> {
         if wrongly(Wrong::B19b) && (samples.len() > limits::samples_each() || in_all > limits::samples()) {
             return Err(line.refused(12));
         }
-        let Some((last, before)) = samples.split_last() else { return Ok(()) };
-        let late = (wrongly(Wrong::B20a) && !last.no_bit_twice())
-            || (wrongly(Wrong::B20b) && last.width() > limits::width() as u32)
-            || (wrongly(Wrong::B48a) && before.iter().any(|sample| sample.shares_a_bit_with(last)))
-            || (wrongly(Wrong::B49) && before.iter().any(|s| s.components == last.components));
-        if late {
+        if joining::wrongly_late(samples) {
             Err(line.refused(14))
         } else {
             Ok(())

@@ -13,7 +13,7 @@ fn empty_contents(subframes: usize, words: u16) -> Contents {
 }
 
 fn one_bit(subframe: usize, word: u16, bit: u8) -> Sample {
-    let component = Component { subframe: subframe as u16, word, low: bit, high: bit };
+    let component = Component { subframe: subframe as u16, word, low: bit, high: bit, overlap: 0 };
     Sample { time: 0, components: vec![component] }
 }
 
@@ -29,7 +29,7 @@ fn parameter(name: Vec<u8>, samples: Vec<Sample>) -> Parameter {
 /// An identifier of 8 bits for each subframe.
 fn add_identifiers(contents: &mut Contents) {
     for subframe in 1..=contents.subframes.len() {
-        let component = Component { subframe: subframe as u16, word: 1, low: 1, high: 8 };
+        let component = Component { subframe: subframe as u16, word: 1, low: 1, high: 8, overlap: 0 };
         let sample = Sample { time: 0, components: vec![component] };
         let name = short_name(contents.parameters.len());
         let mut identifier = parameter(name, vec![sample]);
@@ -77,7 +77,8 @@ pub fn of_components(count: usize) -> Contents {
         while stood < count && samples.len() < 64 {
             let each = (count - stood).min(8);
             let words = 1..=each as u16;
-            let components = words.map(|word| Component { subframe: 1, word, low: 9, high: 9 }).collect();
+            let components =
+                words.map(|word| Component { subframe: 1, word, low: 9, high: 9, overlap: 0 }).collect();
             samples.push(Sample { time: 0, components });
             stood += each;
         }
@@ -161,7 +162,7 @@ fn put_parameter(sheet: &mut Vec<u8>, parameter: &Parameter) {
     for sample in &parameter.samples {
         for c in &sample.components {
             let bits = if c.low == c.high { format!("{}", c.low) } else { format!("{}-{}", c.low, c.high) };
-            sheet.extend(format!("{},{},0,{bits}\n", c.subframe, c.word).bytes());
+            sheet.extend(format!("{},{},{},{bits}\n", c.subframe, c.word, c.overlap).bytes());
         }
         sheet.extend(format!("{}\n", sample.time / 1_000_000).bytes());
     }

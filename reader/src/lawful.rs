@@ -72,9 +72,12 @@ fn margin(random: &mut Random) -> Option<u16> {
     }
 }
 
-/// A table's form, mostly the newest.
-pub fn form(random: &mut Random) -> usize {
-    *random.pick(&[1, 2, 2])
+/// A form that can hold these contents, mostly the newest.
+pub fn form(random: &mut Random, contents: &Contents) -> usize {
+    if contents.has_overlap() {
+        return 3;
+    }
+    *random.pick(&[1, 2, 2, 3, 3])
 }
 
 /// A lawful number of seconds in lowest terms.
@@ -204,20 +207,41 @@ fn time(random: &mut Random) -> u32 {
 /// places leave it incomplete.
 pub fn sample(random: &mut Random, contents: &Contents, width: u32, within: Option<u16>) -> Option<Sample> {
     let mut sample = Sample { time: time(random), components: vec![] };
+    let overlapping = random.percent(35);
+    let mut overlap = 0;
+    let mut place = 0;
     for _ in 0..60 {
-        let rest = width - sample.width();
-        if rest == 0 {
-            return Some(sample);
-        }
         if sample.components.len() == 8 {
             return None;
         }
-        let component = component(random, contents, rest, within);
-        if !sample.components.iter().any(|earlier| earlier.shares_a_bit_with(&component)) {
-            sample.components.push(component);
+        let rest = width - place;
+        let mut component = component(random, contents, rest, within);
+        let shares = sample.components.iter().any(|earlier| earlier.shares_a_bit_with(&component));
+        if shares || component.bits() < overlap {
+            continue;
+        }
+        let more = component.bits() < rest;
+        if overlapping && (more || random.percent(25)) {
+            component.overlap = some_overlap(random, component.bits());
+        }
+        overlap = component.overlap;
+        place += component.bits() - overlap;
+        sample.components.push(component);
+        if place == width {
+            return Some(sample);
         }
     }
     None
+}
+
+/// Fewer than the component's bits; few, or nearly all.
+fn some_overlap(random: &mut Random, bits: u32) -> u32 {
+    match random.below(5) {
+        0 => 0,
+        1 | 2 => 1.min(bits - 1),
+        3 => bits - 1,
+        _ => random.below(bits as usize) as u32,
+    }
 }
 
 fn component(random: &mut Random, contents: &Contents, most: u32, within: Option<u16>) -> Component {
@@ -231,7 +255,7 @@ fn component(random: &mut Random, contents: &Contents, most: u32, within: Option
     let longest = (most as usize).min(usize::from(declared.bits));
     let width = if random.percent(60) { longest } else { random.between(1, longest) };
     let low = random.between(1, usize::from(declared.bits) - width + 1);
-    Component { subframe, word, low: low as u8, high: (low + width - 1) as u8 }
+    Component { subframe, word, low: low as u8, high: (low + width - 1) as u8, overlap: 0 }
 }
 
 /// A name, mnemonic and identification that no earlier parameter has, but

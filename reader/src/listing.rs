@@ -64,6 +64,9 @@ fn text(contents: &Contents, words: &[u16]) -> Vec<u8> {
     for parameter in &contents.parameters {
         for (index, sample) in parameter.samples.iter().enumerate() {
             let answer = reading::answer(contents, sample, parameter.signed, words);
+            if wrongly(Wrong::ListingOverlap) && answer.kind == 2 {
+                continue;
+            }
             text.extend(&parameter.name);
             let number = sample_number(index, written);
             let row = format!(",{},{},{},{}\n", number, answer.width, answer.raw, answer.value);
@@ -83,5 +86,32 @@ fn sample_number(index: usize, written: usize) -> usize {
         index
     } else {
         index + 1
+    }
+}
+
+#[cfg(test)]
+mod tests {
+    use super::*;
+
+    /// The section's altitude: once 35,000, once 34,815 in subframe 1 and
+    /// 34,816 in subframe 3.
+    #[test]
+    fn the_examples_of_overlap() {
+        let agreeing = (
+            &include_bytes!("../../examples/overlap/sheet.frcs")[..],
+            &include_bytes!("../../examples/overlap/frame.bin")[..],
+            include_str!("../../examples/overlap/listing"),
+            "Altitude,1,18,35000,35000\n",
+        );
+        let rolled_over = (
+            &include_bytes!("../../examples/overlap-rolled-over/sheet.frcs")[..],
+            &include_bytes!("../../examples/overlap-rolled-over/frame.bin")[..],
+            include_str!("../../examples/overlap-rolled-over/listing"),
+            "Altitude,1,18,36863,36863\n",
+        );
+        for (sheet, frame, stored, row) in [agreeing, rolled_over] {
+            assert_eq!(String::from_utf8_lossy(&listing(sheet, frame)), stored);
+            assert!(stored.ends_with(row));
+        }
     }
 }

@@ -9,7 +9,16 @@ pub const HEADER_SIZE: usize = 36;
 pub const SUBFRAME_SIZE: usize = 20;
 pub const PARAMETER_SIZE: usize = 16;
 pub const SAMPLE_SIZE: usize = 8;
-pub const COMPONENT_SIZE: usize = 6;
+
+/// From form 3 on an overlap and a zero byte follow form 1's six.
+pub fn component_size(form: usize) -> usize {
+    let six = if form <= 2 { !wrongly(Wrong::TableOldEight) } else { wrongly(Wrong::FormThreeSix) };
+    if six {
+        6
+    } else {
+        8
+    }
+}
 
 /// What stands for an unknown margin, from form 2 on.
 pub const UNKNOWN: u16 = 65_535;
@@ -41,12 +50,14 @@ fn write_front(table: &[u8], lent: &mut [u8]) {
     lent[..length].copy_from_slice(&table[..length]);
 }
 
-/// The five offsets that follow from the counts.
-pub fn offsets(subframes: usize, parameters: usize, samples: usize, components: usize) -> [usize; 5] {
+/// The five offsets that follow from the form and the counts of subframes,
+/// parameters, samples and components.
+pub fn offsets(form: usize, counts: [usize; 4]) -> [usize; 5] {
+    let [subframes, parameters, samples, components] = counts;
     let parameter_part = HEADER_SIZE + SUBFRAME_SIZE * subframes;
     let sample_part = parameter_part + PARAMETER_SIZE * parameters;
     let component_part = sample_part + SAMPLE_SIZE * samples;
-    let text_part = component_part + COMPONENT_SIZE * components;
+    let text_part = component_part + component_size(form) * components;
     [HEADER_SIZE, parameter_part, sample_part, component_part, text_part]
 }
 
@@ -62,15 +73,18 @@ pub fn table_bytes(contents: &Contents) -> Vec<u8> {
 
 fn newest_form(contents: &Contents) -> usize {
     let known = |s: &Subframe| s.leading.is_some() && s.trailing.is_some();
-    let by_need = wrongly(Wrong::MakeFormByNeed) && contents.subframes.iter().all(known);
-    if wrongly(Wrong::MakeFormOne) || by_need {
-        1
-    } else {
-        2
+    let plain = !contents.has_overlap();
+    let one = wrongly(Wrong::MakeFormByNeed) && plain && contents.subframes.iter().all(known);
+    let two = wrongly(Wrong::MakeFormTwoByNeed) && plain;
+    match () {
+        _ if wrongly(Wrong::MakeFormOne) || one => 1,
+        _ if wrongly(Wrong::MakeFormTwo) || two => 2,
+        _ => 3,
     }
 }
 
-/// Form 1 is what was made before form 2: it has 0 for an unknown margin.
+/// Form 1 is what was made before form 2: it has 0 for an unknown margin. It
+/// and form 2 have no place for an overlap.
 pub fn table_of_form(form: usize, contents: &Contents) -> Vec<u8> {
     let text = text_part(&contents.parameters);
     let mut table = header(form, contents, text.len());
@@ -80,7 +94,7 @@ pub fn table_of_form(form: usize, contents: &Contents) -> Vec<u8> {
     }
     put_parameters(&mut table, &contents.parameters);
     put_samples(&mut table, &contents.parameters);
-    put_components(&mut table, &contents.parameters);
+    put_components(&mut table, form, &contents.parameters);
     table.extend(text);
     table
 }
@@ -88,13 +102,13 @@ pub fn table_of_form(form: usize, contents: &Contents) -> Vec<u8> {
 fn header(form: usize, contents: &Contents, text_length: usize) -> Vec<u8> {
     let samples = contents.sample_count();
     let components = contents.component_count();
-    let offsets = offsets(contents.subframes.len(), contents.parameters.len(), samples, components);
+    let counts = [contents.subframes.len(), contents.parameters.len(), samples, components];
+    let offsets = offsets(form, counts);
     let mut table = Vec::new();
     put4(&mut table, offsets[4] + text_length);
-    put2(&mut table, contents.subframes.len());
-    put2(&mut table, contents.parameters.len());
-    put2(&mut table, samples);
-    put2(&mut table, components);
+    for count in counts {
+        put2(&mut table, count);
+    }
     put2(&mut table, usize::from(contents.sequential));
     put2(&mut table, form);
     for offset in offsets {
@@ -140,12 +154,15 @@ fn put_samples(table: &mut Vec<u8>, parameters: &[Parameter]) {
     }
 }
 
-fn put_components(table: &mut Vec<u8>, parameters: &[Parameter]) {
+fn put_components(table: &mut Vec<u8>, form: usize, parameters: &[Parameter]) {
     let samples = parameters.iter().flat_map(|p| &p.samples);
     for component in samples.flat_map(|s| &s.components) {
         table.extend(component.subframe.to_le_bytes());
         table.extend(component.word.to_le_bytes());
         table.extend([component.low, component.high]);
+        if component_size(form) == 8 {
+            table.extend([component.overlap as u8, 0]);
+        }
     }
 }
 

@@ -53,7 +53,9 @@ pub fn all(random: &mut Random, role: Role, line: &DraftLine) -> Vec<Vec<u8>> {
         Role::Seconds => seconds(),
         Role::Subframe => number(&["0", "00", "33", "32", "40", "999999", "65537", "2", "5"]),
         Role::Word => word(line),
-        Role::Overlap => number(&["1", "2", "16", "17", "999999", "000", "0000000", "00", "12"]),
+        Role::Overlap => {
+            number(&["1", "2", "16", "17", "999999", "000", "0000000", "00", "12", "256", "65537"])
+        }
         Role::Bits => bits(u64::from(line.bits)),
         Role::SourceBits => bits(32),
         Role::Time => of(TIMES),

@@ -2,10 +2,13 @@
 
 use crate::checking::{self, Table};
 use crate::contents::{Contents, Parameter, Sample};
+use crate::joining;
 use crate::wrong::{wrongly, Wrong};
 
 #[derive(Clone, Copy, Debug, PartialEq, Eq)]
 pub struct Answer {
+    /// 1, or 2 where overlapping bits differ.
+    pub kind: u32,
     pub width: u32,
     pub raw: u64,
     pub value: i64,
@@ -14,7 +17,11 @@ pub struct Answer {
 pub fn read(table: &[u8], frame: &[u16], parameter: u32, sample: u32) -> Result<Answer, u8> {
     let table = checking::check(table).ok_or(18)?;
     let (parameter, sample) = asked_of_frame(&table, frame, parameter, sample)?;
-    Ok(answer(&table.contents, sample, parameter.signed, frame))
+    let answer = answer(&table.contents, sample, parameter.signed, frame);
+    if wrongly(Wrong::OverlapRefused) && answer.kind == 2 {
+        return Err(10);
+    }
+    Ok(answer)
 }
 
 /// The sample asked for, where the frame fits the table: 21, 22, 19, 20.
@@ -85,15 +92,18 @@ fn too_high(word: u16, bits: u16) -> bool {
 }
 
 pub fn answer(contents: &Contents, sample: &Sample, signed: bool, frame: &[u16]) -> Answer {
-    let width = sample.width();
-    let raw = raw_value(contents, sample, frame);
+    let (raw, kind) = joined(contents, sample, frame);
+    let width = if wrongly(Wrong::OverlapWidthSum) { sample.all_bits() } else { sample.width() };
     let mut value = raw as i64;
     if wrongly(Wrong::SlipSignBit16) && signed {
         value -= if raw & 0x8000 != 0 { 1 << 16 } else { 0 };
     } else if (signed || wrongly(Wrong::B69)) && is_negative(contents, sample, raw, frame) {
-        value -= 1 << width.min(62);
+        value -= 1 << sample.width().min(62);
     }
-    Answer { width, raw, value }
+    if wrongly(Wrong::OverlapNothing) && kind == 2 {
+        return Answer { kind, width: 0, raw: 0, value: 0 };
+    }
+    Answer { kind, width, raw, value }
 }
 
 /// Whether the sample's top bit is set.
@@ -103,26 +113,41 @@ fn is_negative(contents: &Contents, sample: &Sample, raw: u64, frame: &[u16]) ->
         let bits = contents.subframes[usize::from(last.subframe) - 1].bits;
         return frame[contents.word_place(&last)] >> (bits - 1) & 1 == 1;
     }
-    raw >> (sample.width() - 1).min(63) & 1 == 1
+    let width = if wrongly(Wrong::OverlapSignSum) { sample.all_bits() } else { sample.width() };
+    raw >> (width - 1).min(63) & 1 == 1
 }
 
-/// Joins the components, the first one being the least significant.
-pub fn raw_value(contents: &Contents, sample: &Sample, frame: &[u16]) -> u64 {
+/// The raw value, and the answer's kind.
+fn joined(contents: &Contents, sample: &Sample, frame: &[u16]) -> (u64, u32) {
     if sample.width() > 32 {
         // Only a wrong reading lets such a sample through.
-        return 0;
+        return (0, 1);
     }
+    let sample = in_order(sample);
+    let parts = joining::parts(contents, &sample, frame);
+    let raw = joining::raw_value(&sample, &parts);
+    let differs = !joining::agrees(&sample, &parts, raw) && !wrongly(Wrong::OverlapKindOne);
+    (raw, if differs { 2 } else { 1 })
+}
+
+/// Whether every component is its bits of the value.
+pub fn agrees(contents: &Contents, sample: &Sample, frame: &[u16], value: u64) -> bool {
+    if wrongly(Wrong::OverlapCompareRaw) {
+        return joined(contents, sample, frame).0 == value;
+    }
+    if sample.width() > 32 {
+        return value == 0;
+    }
+    let sample = in_order(sample);
+    joining::agrees(&sample, &joining::parts(contents, &sample, frame), value)
+}
+
+/// The components as the sheet has them, the first one being the least
+/// significant.
+pub fn in_order(sample: &Sample) -> Sample {
     let mut components = sample.components.clone();
     if wrongly(Wrong::SlipFirstOnTop) {
         components.reverse();
     }
-    let mut raw = 0;
-    let mut joined = 0;
-    for component in &components {
-        let word = u64::from(frame[contents.word_place(component)]);
-        let part = (word >> (component.low - 1)) % (1 << component.width());
-        raw += part << joined;
-        joined += component.width();
-    }
-    raw
+    Sample { time: sample.time, components }
 }

@@ -8,6 +8,7 @@ use crate::judging;
 use crate::large;
 use crate::lawful;
 use crate::misspellings::{self, Role};
+use crate::overlap_breaks;
 use crate::random::Random;
 
 pub fn lawful(random: &mut Random) -> Vec<u8> {
@@ -33,6 +34,7 @@ fn attempt(random: &mut Random, number: u8) -> Vec<u8> {
         4 => at_the_end(random),
         9 => with_wrong_version(random),
         12 if random.percent(70) => overfull(random),
+        14 if random.percent(60) => broken(random, overlap_breaks::rule_of_overlap),
         12 | 14 | 15 => broken(random, breaks::rule_of_12_to_15),
         16 => broken(random, breaks::rule_of_16),
         _ => one_fault(random),
@@ -76,13 +78,14 @@ pub fn broken(random: &mut Random, rule: fn(&mut Random, &mut Contents)) -> Vec<
 
 /// Two faults, so that the order of judging shows.
 pub fn two_faults(random: &mut Random) -> Vec<u8> {
-    match random.below(9) {
+    match random.below(10) {
         0 | 1 => twice_in_a_line(random),
         2 => unequal_width_and_bad_time(random),
         3 => equal_names_and_bad_field(random),
         4 | 5 => broken_identifiers(random),
         6 => identifier_and_fault(random),
         7 => unlawful_sample_and_fault(random),
+        8 => overlap_and_bad_time(random),
         _ => anywhere_twice(random),
     }
 }
@@ -178,7 +181,7 @@ fn misorder_sources(random: &mut Random, draft: &mut Draft, fault: usize) {
 
 fn overlap_and_bad_bits(random: &mut Random, line: &mut DraftLine) {
     faults::field_from(random, line, 3);
-    line.fields[2] = random.between(1, 20).to_string().into_bytes();
+    line.fields[2] = random.pick(&["1", "17", "20", "999999"]).as_bytes().to_vec();
 }
 
 /// Leaves the blank line after the samples right behind the 7-field line.
@@ -212,6 +215,15 @@ fn unequal_width_and_bad_time(random: &mut Random) -> Vec<u8> {
             faults::field(random, &mut draft.lines[index]);
         }
     }
+    draft.bytes(random)
+}
+
+/// A time line with an overlap of the last component and a misspelled time.
+fn overlap_and_bad_time(random: &mut Random) -> Vec<u8> {
+    let mut draft = draft_with(random, Kind::Time);
+    let time = *random.pick(&draft.places(Kind::Time));
+    draft.lines[time - 1].fields[2] = random.pick(&["1", "2", "01"]).as_bytes().to_vec();
+    faults::field(random, &mut draft.lines[time]);
     draft.bytes(random)
 }
 

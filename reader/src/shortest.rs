@@ -46,5 +46,6 @@ fn component(component: &Component) -> usize {
     } else {
         digits(u64::from(component.low)) + 1 + digits(u64::from(component.high))
     };
-    ",,0,\n".len() + digits(u64::from(component.subframe)) + digits(u64::from(component.word)) + bits
+    let [subframe, word] = [component.subframe, component.word].map(|number| digits(u64::from(number)));
+    ",,,\n".len() + subframe + word + digits(u64::from(component.overlap)) + bits
 }

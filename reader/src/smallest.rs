@@ -1,10 +1,11 @@
-//! Smallest cases of both forms and of the card calls, for the trial program's
+//! Smallest cases of each form and of the card calls, for the trial program's
 //! stored case file.
 
 use crate::cases::Case;
 use crate::judging;
 use crate::listings::wall_with;
 use crate::making;
+use crate::smallest_overlap;
 
 /// Each with what it shows.
 pub type Shown = (&'static str, Case);
@@ -12,7 +13,7 @@ pub type Shown = (&'static str, Case);
 pub fn cases() -> Vec<Shown> {
     let forms = [made(), checked(), of_unknown_margins()].concat();
     let cards = [found(), refused(), margins_unknown(), positions(), unlike_subframes(), from_on()].concat();
-    [forms, cards].concat()
+    [forms, cards, smallest_overlap::cases()].concat()
 }
 
 const BARE: &str = "HEADER:\n2.0,,A,,,1,,,True,,,1,,\nRECORD:\n12,4,,,1.0\nNONE\n";
@@ -23,12 +24,16 @@ const UNLIKE: &str = "HEADER:\n2.0,,A,,,1,,,True,,,2,,\nRECORD:\n8,1,2,1,1\nRECO
 PARAMETER:\nA,,,True,,,\n1,1,0,1-8\n0\n\nFalse,,,,\n9,,,\n,,\n\n\n\
 PARAMETER:\nB,,,True,,,\n2,1,0,1-3\n2,2,0,4-5\n0\n\nFalse,,,,\n22,,,\n,,\n\n\n";
 
-fn table(sheet: &str) -> Vec<u8> {
+pub fn table(sheet: &str) -> Vec<u8> {
     judging::judge(sheet.as_bytes()).map_or(vec![], |contents| making::table_bytes(&contents))
 }
 
+pub fn table_of(form: usize, sheet: &str) -> Vec<u8> {
+    judging::judge(sheet.as_bytes()).map_or(vec![], |contents| making::table_of_form(form, &contents))
+}
+
 fn of_form_1(sheet: &str) -> Vec<u8> {
-    judging::judge(sheet.as_bytes()).map_or(vec![], |contents| making::table_of_form(1, &contents))
+    table_of(1, sheet)
 }
 
 /// The wall's table as its sheet is, with blank margins.
@@ -47,11 +52,11 @@ fn with_margins() -> Vec<u8> {
 }
 
 fn made() -> Vec<Shown> {
-    let make = |margins: &str| Case::Make { sheet: wall_with(margins).into_bytes(), lent: 134 };
+    let make = |margins: &str| Case::Make { sheet: wall_with(margins).into_bytes(), lent: 140 };
     vec![
-        ("form 2, margins known", make("3,1")),
-        ("form 2, leading bits unknown", make(",1")),
-        ("form 2, trailing bits unknown", make("3,")),
+        ("margins known", make("3,1")),
+        ("leading bits unknown", make(",1")),
+        ("trailing bits unknown", make("3,")),
         ("11: 65535 is no spelling of unknown leading bits", make("65535,")),
         ("11: 65535 is no spelling of unknown trailing bits", make(",65535")),
     ]
@@ -60,7 +65,7 @@ fn made() -> Vec<Shown> {
 /// The wall's table with another form and other margins.
 fn checked() -> Vec<Shown> {
     let check = |form: u16, leading: u16, trailing: u16| {
-        let mut table = blank();
+        let mut table = table_of(if form == 1 || form == 2 { form.into() } else { 3 }, &wall_with(","));
         table[14..16].copy_from_slice(&form.to_le_bytes());
         table[40..44].copy_from_slice(&[leading.to_le_bytes(), trailing.to_le_bytes()].concat());
         Case::Check { table }
@@ -78,9 +83,14 @@ fn checked() -> Vec<Shown> {
         ("18: form 2, 4,096 trailing bits", check(2, 65_535, 4096)),
         ("18: form 2, 65,534 leading bits", check(2, 65_534, 65_535)),
         ("18: form 2, 65,534 trailing bits", check(2, 65_535, 65_534)),
+        ("form 3, 4,095 bits", check(3, 4095, 4095)),
+        ("form 3, leading bits unknown", check(3, 65_535, 0)),
+        ("form 3, trailing bits unknown", check(3, 0, 65_535)),
+        ("18: form 3, 4,096 leading bits", check(3, 4096, 65_535)),
+        ("18: form 3, 65,534 trailing bits", check(3, 65_535, 65_534)),
         ("18: form 0", check(0, 0, 0)),
-        ("18: form 3", check(3, 0, 0)),
-        ("18: form 258, whose low byte is 2", check(258, 0, 0)),
+        ("18: form 4", check(4, 0, 0)),
+        ("18: form 259, whose low byte is 3", check(259, 0, 0)),
     ]
 }
 
@@ -88,7 +98,9 @@ fn checked() -> Vec<Shown> {
 fn of_unknown_margins() -> Vec<Shown> {
     let (table, frame) = (blank(), vec![583, 5, 0, 6]);
     let (parameter, sample) = (2, 1);
+    let of_form_2 = table_of(2, &wall_with(","));
     vec![
+        ("Pitch read by form 2", Case::Read { table: of_form_2, frame: frame.clone(), parameter, sample }),
         ("Pitch read", Case::Read { table: table.clone(), frame: frame.clone(), parameter, sample }),
         (
             "Pitch placed",
@@ -104,7 +116,7 @@ fn of_unknown_margins() -> Vec<Shown> {
 const REFERENCE: [u8; 7] = [0xa0, 0x23, 0x29, 0, 0, 0x30, 0x80];
 
 /// Numbers of so many bits each, one after the other, the low bit first.
-fn packed(pieces: &[(u64, usize)]) -> Vec<u8> {
+pub fn packed(pieces: &[(u64, usize)]) -> Vec<u8> {
     let bits: Vec<u64> =
         pieces.iter().flat_map(|&(number, count)| (0..count).map(move |bit| number >> bit & 1)).collect();
     bits.chunks(8).map(|byte| byte.iter().rev().fold(0, |sum, &bit| 2 * sum + bit as u8)).collect()
@@ -117,7 +129,7 @@ fn behind(bits: usize) -> Vec<u8> {
     packed(&[&[(u64::MAX, bits)], &FRAME[..]].concat())
 }
 
-fn card(table: Vec<u8>, stream: &[u8], lent: usize) -> Case {
+pub fn card(table: Vec<u8>, stream: &[u8], lent: usize) -> Case {
     Case::Card { table, stream: stream.to_vec(), lent }
 }
 

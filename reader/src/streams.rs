@@ -164,9 +164,10 @@ fn nearly(random: &mut Random, contents: &Contents) -> Stream {
     let mut stream = Stream::new(random);
     let [before, between] = [random.below(24), random.below(12)];
     stream.fill(random, before);
-    let frame = match random.below(3) {
+    let frame = match random.below(4) {
         0 => only_first_agrees(random, contents),
         1 => one_bit_off(random, contents),
+        2 => copies_off(random, contents),
         _ => frames::differing(random, contents),
     };
     stream.put(random, contents, &frame);
@@ -184,6 +185,16 @@ fn one_bit_off(random: &mut Random, contents: &Contents) -> Vec<u16> {
     if !identifiers.is_empty() {
         let identifier = *random.pick(&identifiers);
         flip_a_bit(random, contents, identifier, &mut frame);
+    }
+    frame
+}
+
+/// Every identifier with overlap has its raw value, and a copy that differs.
+fn copies_off(random: &mut Random, contents: &Contents) -> Vec<u16> {
+    let mut frame = frames::fitting(random, contents);
+    frames::place_identifiers(contents, &mut frame);
+    for identifier in identifiers(contents) {
+        frames::one_copy_off(random, contents, &identifier.samples[0], &mut frame);
     }
     frame
 }

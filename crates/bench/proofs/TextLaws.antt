@@ -19,6 +19,7 @@ use Rattle.table.specs.Answers.{numberedOf, askedNumber, nameAnswered}
 use Rattle.table.specs.declared.naming.Asked.the-variants.{Parameter, Refused}
 use Rattle.table.proofs.Accepting.{accepted-ruled}
 use Rattle.framing.specs.Reading.{readOf}
+use Rattle.framing.specs.declared.read.Reading.{Reading}
 use Rattle.framing.specs.declared.read.Reading.the-variants as reading
 use Rattle.table.specs.declared.reason.Reason.{Reason}
 use Rattle.table.specs.declared.reason.Reason.the-variants.{NoTable, NoParameter}
@@ -37,17 +38,17 @@ fills-some text lent after need n h e p = let b = le-leb need (length lent) h in
 
 -- ---- a row
 
-row-found : (b f : List ℕ) (p s r w : ℕ) (v : ℤ) → readOf b f p s ≡ reading.Sample r w v → rowFor b f p s ≡ rowText (nameAnswered b (askedNumber b p)) s w r v
-unfolding rowFor rowOf
-row-found b f p s r w v e = ap (rowOf (nameAnswered b (askedNumber b p)) s) e
+row-found : (b f : List ℕ) (p s r w : ℕ) (v : ℤ) (q : Reading) → readOf b f p s ≡ q → rowOf (nameAnswered b (askedNumber b p)) s q ≡ rowText (nameAnswered b (askedNumber b p)) s w r v → rowFor b f p s ≡ rowText (nameAnswered b (askedNumber b p)) s w r v
+unfolding rowFor
+row-found b f p s r w v q e h = ap (rowOf (nameAnswered b (askedNumber b p)) s) e ∙ h
 
 row-missing : (b f : List ℕ) (p s : ℕ) (q : Reason) → readOf b f p s ≡ reading.Refused q → rowFor b f p s ≡ []
 unfolding rowFor rowOf
 row-missing b f p s q e = ap (rowOf (nameAnswered b (askedNumber b p)) s) e
 
-pub row-fills : (b f lent after name : List ℕ) (p s r w n : ℕ) (v : ℤ) → rowMost ≤ length lent → readOf b f p s ≡ reading.Sample r w v → name ≡ nameAnswered b (askedNumber b p) → (n ≡ 0 + length (rowText name s w r v)) × (after ≡ put lent 0 (rowText name s w r v)) → Fills (rowFor b f p s) rowMost lent n after
-row-fills b f lent after name p s r w n v h e m t =
-    let row : rowText name s w r v ≡ rowFor b f p s = ap (λ (x : List ℕ). rowText x s w r v) m ∙ sym (row-found b f p s r w v e) in
+pub row-fills : (b f lent after : List ℕ) (p s r w n : ℕ) (v : ℤ) (q : Reading) → rowMost ≤ length lent → readOf b f p s ≡ q → rowOf (nameAnswered b (askedNumber b p)) s q ≡ rowText (nameAnswered b (askedNumber b p)) s w r v → (n ≡ 0 + length (rowText (nameAnswered b (askedNumber b p)) s w r v)) × (after ≡ put lent 0 (rowText (nameAnswered b (askedNumber b p)) s w r v)) → Fills (rowFor b f p s) rowMost lent n after
+row-fills b f lent after p s r w n v q h e k t =
+    let row : rowText (nameAnswered b (askedNumber b p)) s w r v ≡ rowFor b f p s = sym (row-found b f p s r w v q e k) in
     fills-some (rowFor b f p s) lent after rowMost n h (omega (arith, t .0, ap length row)) (t .1 ∙ ap (put lent 0) row)
 
 pub row-none : (b f lent : List ℕ) (p s : ℕ) (q : Reason) → rowMost ≤ length lent → readOf b f p s ≡ reading.Refused q → Fills (rowFor b f p s) rowMost lent 0 lent

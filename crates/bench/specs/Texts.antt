@@ -21,6 +21,7 @@ Fills text need lent n after =
 -- the row of what is read, by the table's name for the parameter
 unfoldable pub rowOf : List ℕ → ℕ → Reading → List ℕ
 rowOf name sample (reading.Sample raw width value) = rowText name sample width raw value
+rowOf name sample (reading.OverlapDiffers raw width value) = rowText name sample width raw value
 rowOf name sample (reading.Refused w) = []
 
 unfoldable pub rowFor : List ℕ → List ℕ → ℕ → ℕ → List ℕ

@@ -8,6 +8,12 @@ use listed::listing::put_heading;
 use listed::listing::put_refused;
 use listed::listing::put_words;
 use listed::rows::put_row;
+ghost use mathlib.Core.Path.{_≡_};
+ghost use Prim.Native.Nat.{_+_, _≤_};
+ghost use lib.ListN.{length};
+ghost use Rattle.lay.specs.Bytes.{put};
+ghost use Rattle.table.specs.Answers.{askedNumber, nameAnswered};
+ghost use Rattle.listed.specs.Lines.{rowText};
 ghost use Rattle.listed.specs.Listing.{headingText, refusedText, rowMost};
 ghost use Rattle.bench.specs.Texts.{Fills, rowFor, WordsFill};
 
@@ -31,7 +37,32 @@ pub fn refusal(number: u32, line: u32, out: &mut [u8]) -> usize
     put_refused(out, number, line)
 }
 
-// The row of a sample, both counted from 1; ROW bytes are enough. Nothing where the read is refused.
+// The row of what was read, by the parameter's name.
+fn put_named(
+    t: &[u8],
+    parameter: u32,
+    sample: u32,
+    raw: u32,
+    width: u32,
+    value: i64,
+    out: &mut [u8],
+) -> usize
+    requires { ⌜ rowMost ≤ length (now out) ⌝ }
+    ensures { λ r. ⌜ (r ≡ 0 + length (rowText (nameAnswered (now (t .entry)) (askedNumber (now (t .entry)) parameter)) sample width raw value)) × (now (out .exit) ≡ put (now (out .entry)) 0 (rowText (nameAnswered (now (t .entry)) (askedNumber (now (t .entry)) parameter)) sample width raw value)) ⌝ }
+{
+    put_row(
+        out,
+        0,
+        name(t, parameter),
+        sample as u64,
+        width as u64,
+        raw as u64,
+        value,
+    )
+}
+
+// The row of a sample, both counted from 1, whether its copies agree or not; ROW bytes are enough. Nothing where the read is
+// refused.
 pub fn row(t: &[u8], words: &[u16], parameter: u32, sample: u32, out: &mut [u8]) -> usize
     ensures { λ r. ⌜ Fills (rowFor (now (t .entry)) (now (words .entry)) parameter sample) rowMost (now (out .entry)) r (now (out .exit)) ⌝ }
 {
@@ -39,15 +70,12 @@ pub fn row(t: &[u8], words: &[u16], parameter: u32, sample: u32, out: &mut [u8])
         return 0;
     }
     match read(t, words, parameter, sample) {
-        Reading::Sample { raw, width, value } => put_row(
-            out,
-            0,
-            name(t, parameter),
-            sample as u64,
-            width as u64,
-            raw as u64,
-            value,
-        ),
+        Reading::Sample { raw, width, value } => {
+            put_named(t, parameter, sample, raw, width, value, out)
+        }
+        Reading::OverlapDiffers { raw, width, value } => {
+            put_named(t, parameter, sample, raw, width, value, out)
+        }
         Reading::Refused(_) => 0,
     }
 }

@@ -1,40 +1,34 @@
 -- The sieve, row by row. Assumes nothing.
-use mathlib.Core.Path.{_≡_, refl, sym, ap, ap₂, _∙_, subst}
+use mathlib.Core.Path.{_≡_, refl, sym, ap, _∙_, subst}
 use mathlib.Core.Bool.{true, false}
 use mathlib.Core.List.{List}
-use Prim.Native.Nat.{ℕ, _+_, _*_, _/_, _%_, _^_, _≤_, _<_}
-use native.Mathlib.Nat.{mul-comm}
+use Prim.Native.Nat.{ℕ, _+_, _≤_, _<_}
 use native.Mathlib.Omega.{arith}
 use borrow.Author.Count.{below-more}
 use borrow.Author.Tests.{eq-eqb, ne-eqb, eqb-true}
 use lib.ListN.{length, getD, set}
 use lib.Seq.{getD-set-same, getD-set-other}
+use Rattle.bits.specs.Word.{field}
 use Rattle.lay.specs.Below.{all}
 use Rattle.lay.proofs.Below.{all-more, all-same, all-below}
 use Rattle.stream.specs.Stream.{bitsFrom}
-use Rattle.stream.proofs.Streams.{from-lt}
-use Rattle.bits.proofs.Bits.{stack-low, stack-high}
-use Rattle.sample.specs.declared.component.Component.{Component as Piece}
-use Rattle.sample.specs.Component.{bitsOf}
-use Rattle.sample.specs.Joining.{partOf, join}
+use Rattle.model.specs.Content.{Sample}
 use Rattle.model.specs.Forms.{sheetLimits}
-use Rattle.model.specs.Samples.{piece, pieces}
-use Rattle.model.specs.Stored.{firstComponentIn, componentCountIn, parametersIn, firstSampleIn, valueIn}
-use Rattle.model.specs.View.{componentAt, view, sampleAt, identifierIn}
-use Rattle.model.specs.Meaning.{ComponentLaw}
-use Rattle.rules.specs.Ruled.{subframesOf, PiecesHere, Ruled}
-use Rattle.rules.proofs.Samplings.{stands, left, left-next}
+use Rattle.model.specs.Samples.{holdsAt, holds}
+use Rattle.model.specs.Stored.{componentCountIn, parametersIn, firstSampleIn, valueIn}
+use Rattle.model.specs.View.{view, sampleAt, identifierIn}
+use Rattle.rules.specs.Ruled.{subframesOf, Ruled}
+use Rattle.rules.proofs.Identifying.{first}
 use Rattle.card.specs.declared.spans.Run.{Run}
 use Rattle.carding.specs.Layout.{frameAt}
 use Rattle.carding.specs.Search.{agreesAt, readsAt}
 use Rattle.card.specs.Promise.{mostRunAt, RunOf}
 use Rattle.lay.proofs.Passing.{Passed}
 use Rattle.lay.proofs.Tests.{refuse, differ}
-use Rattle.framing.specs.Reading.{rawOf}
-use Rattle.framing.proofs.Listed.{listed-at, first-one, pieces-listed}
+use Rattle.framing.proofs.Held.{holds-all}
 use Rattle.carding.proofs.Agreeing.{agrees-all, identifier-reads}
-use Rattle.carding.proofs.Frames.{frame-part}
 use Rattle.card.specs.Sieve.{mostRows, SieveRows, SieveOf, siftsOne, siftsAt, Shaped, With}
+use Rattle.card.proofs.Runs.{Along, along-more, tested}
 
 -- no room: the sieve stays
 pub with-none : (s : SieveRows) (at width want : ℕ) → Shaped s → With s at width want s
@@ -73,74 +67,33 @@ module _ (s : SieveRows) (at width want : ℕ) (h : Shaped s) (near : at ≤ mos
 
 -- ---- the rows of an identifier
 
--- the rest of its value is what its other components join to, in every frame that agrees
-pub record Sifting (b : List ℕ) (j : ℕ) (s : SieveRows) (first count rest k : ℕ) : Type 0 where
-  pub firsts : first ≡ firstComponentIn b j
-  pub counted : count ≡ componentCountIn b j
-  pub inside : k ≤ count
-  pub here : PiecesHere b j
+-- the rows so far; and in every frame that agrees, each component of sample j is its bits of v
+pub record Sifting (b : List ℕ) (j v : ℕ) (s : SieveRows) (first count at k : ℕ) : Type 0 where
+  pub along : Along b j first count at k
   pub sieve : SieveOf b s
-  pub left-is : (y : List ℕ) (p : ℕ) → agreesAt (view b) y p ≡ true → join (frameAt (view b) y p) (left b j k) ≡ rest
+  pub held : (y : List ℕ) (p : ℕ) → agreesAt (view b) y p ≡ true → holds (subframesOf b) (frameAt (view b) y p) (sampleAt b j) v ≡ true
 
-module _ {b : List ℕ} {j : ℕ} {s : SieveRows} {first count rest k : ℕ} (v : Sifting b j s first count rest k) (l : k < count) where
-  pub law-here : ComponentLaw (subframesOf b) (componentAt b (first + k))
-  law-here = subst (λ (n : ℕ). ComponentLaw (subframesOf b) (componentAt b (n + k))) (sym (v .firsts)) (v .here .each k (omega (arith, v)))
+pub sifting-more : {b : List ℕ} {j v : ℕ} {s : SieveRows} {first count at k : ℕ} (t : Sifting b j v s first count at k) → k < count → {c : Run} → RunOf b (first + k) c → {want : ℕ} → want ≡ field v at (c .bits) → {r : SieveRows} → With s (c .at) (c .bits) want r → Sifting b j v r first count (at + c .given) (k + 1)
+sifting-more {b} {j} {v} {k = k} t l {c} e {want} q w =
+    record {
+      along = along-more (t .along) l e;
+      sieve = record { shaped = w .shaped; needed = λ y p h. w .sifts y p (t .sieve .needed y p h) (row-wanted y p h) };
+      held = t .held;
+    }
+  where
+    -- every such frame has component k's row
+    row-wanted : (y : List ℕ) (p : ℕ) → agreesAt (view b) y p ≡ true → bitsFrom y (p + c .at) (c .bits) ≡ want
+    row-wanted y p h =
+        let f = frameAt (view b) y p in
+        let each = all-below (componentCountIn b j) (holdsAt (subframesOf b) f (sampleAt b j) v) (holds-all b j f v ∙ t .held y p h) in
+        eqb-true _ _ (tested (t .along) l e y p v refl q ∙ each k (omega (arith, t .along .counted)))
 
-  is-piece : piece (subframesOf b) (componentAt b (first + k)) ≡ stands b j k
-  is-piece = ap (λ (n : ℕ). piece (subframesOf b) (componentAt b (n + k))) (v .firsts)
-
-  module _ {c : Run} (e : RunOf b (first + k) c) {own : ℕ} (o : own ≡ 2 ^ c .bits) where
-    bits-here : c .bits ≡ bitsOf (stands b j k)
-    bits-here = e .bits-is ∙ ap (λ (p : Piece). bitsOf p) is-piece
-
-    module _ (y : List ℕ) (p : ℕ) (h : agreesAt (view b) y p ≡ true) where
-      abbrev f : List ℕ
-      f = frameAt (view b) y p
-
-      part-here : partOf f (stands b j k) ≡ bitsFrom y (p + c .at) (c .bits)
-      part-here =
-          ap (partOf f) (sym is-piece)
-          ∙ frame-part (view b) y p (componentAt b (first + k)) law-here
-          ∙ ap₂ (λ (m n : ℕ). bitsFrom y (p + m) n) (sym (e .at-is)) (sym (e .bits-is))
-
-      parted : bitsFrom y (p + c .at) (c .bits) + join f (left b j (k + 1)) * 2 ^ c .bits ≡ rest
-      unfolding join
-      parted =
-          ap₂ (λ (a n : ℕ). a + join f (left b j (k + 1)) * 2 ^ n) (sym part-here) bits-here
-          ∙ ap (λ (m : ℕ). partOf f (stands b j k) + m) (mul-comm (join f (left b j (k + 1))) (2 ^ bitsOf (stands b j k)))
-          ∙ ap (join f) (sym (left-next b j k (omega (arith, v))))
-          ∙ v .left-is y p h
-
-      pub part-wanted : bitsFrom y (p + c .at) (c .bits) ≡ rest % own
-      part-wanted =
-          sym (stack-low (c .bits) 0 (join f (left b j (k + 1))) (from-lt y (p + c .at) (c .bits)))
-          ∙ ap₂ (λ (x m : ℕ). x % m) parted (sym o)
-
-      pub rest-wanted : join f (left b j (k + 1)) ≡ rest / own
-      rest-wanted =
-          sym (stack-high (c .bits) 0 (join f (left b j (k + 1))) (from-lt y (p + c .at) (c .bits)))
-          ∙ ap₂ (λ (x m : ℕ). x / m) parted (sym o)
-
-    pub sifting-more : {r : SieveRows} → With s (c .at) (c .bits) (rest % own) r → Sifting b j r first count (rest / own) (k + 1)
-    sifting-more w =
-        record {
-          firsts = v .firsts;
-          counted = v .counted;
-          inside = omega (arith, v);
-          here = v .here;
-          sieve = record { shaped = w .shaped; needed = λ y p h. w .sifts y p (v .sieve .needed y p h) (part-wanted y p h) };
-          left-is = rest-wanted;
-        }
-
--- an identifier's components join to its value in every frame that agrees
-pub value-joined : (b : List ℕ) (i : ℕ) → Ruled b → i < parametersIn b → identifierIn b i ≡ true → (y : List ℕ) (p : ℕ) → agreesAt (view b) y p ≡ true → join (frameAt (view b) y p) (pieces (subframesOf b) (sampleAt b (firstSampleIn b i))) ≡ valueIn b i
-unfolding rawOf
-value-joined b i r l e y p h =
+-- an identifier is its value in every frame that agrees
+pub value-held : (b : List ℕ) (i : ℕ) → Ruled b → i < parametersIn b → identifierIn b i ≡ true → (y : List ℕ) (p : ℕ) → agreesAt (view b) y p ≡ true → holds (subframesOf b) (frameAt (view b) y p) (sampleAt b (firstSampleIn b i)) (valueIn b i) ≡ true
+value-held b i r l e y p h =
     let f = frameAt (view b) y p in
-    let m = listed-at b i 0 r l (first-one b i r l) in
-    let q : firstSampleIn b i ≡ firstSampleIn b i + 0 = omega arith in
     let reads = all-below (parametersIn b) (readsAt (view b) f) (sym (agrees-all b y p r) ∙ h) i l in
-    ap (join f) (pieces-listed b i 0 m q) ∙ eqb-true _ _ (sym (identifier-reads b f i l e) ∙ reads)
+    ap (λ (s : Sample). holds (subframesOf b) f s (valueIn b i)) (sym (first b i r l .is)) ∙ sym (identifier-reads b f i l e) ∙ reads
 
 -- ---- what the sieve keeps back
 

@@ -9,7 +9,7 @@ use Rattle.model.specs.Margin.{marginBits, marginAs}
 use Rattle.model.specs.Content.{Subframe, subframe, subframes}
 use Rattle.model.specs.Forms.{sheetLimits, limitsIn}
 use Rattle.model.specs.Frame.{frameWords}
-use Rattle.model.specs.Stored.{subframesIn, bitsIn, wordsIn, leadingIn, trailingIn, homeIn, wordIn, lowIn, highIn}
+use Rattle.model.specs.Stored.{subframesIn, bitsIn, wordsIn, leadingIn, trailingIn, homeIn, wordIn, lowIn, highIn, overlapIn}
 use Rattle.model.specs.View.{subframeAt, componentAt, view}
 use Rattle.model.specs.Meaning.{ComponentLaw}
 use Rattle.model.proofs.Margins.{known-number, known-most}
@@ -38,6 +38,7 @@ pub record Inside (b : List ℕ) (k : ℕ) : Type 0 where
   pub someBit : 1 ≤ lowIn b k
   pub rising : lowIn b k ≤ highIn b k
   pub fewBits : highIn b k ≤ sheetLimits .bits
+  pub lapped : overlapIn b k < highIn b k + 1 - lowIn b k
 
 module _ (b : List ℕ) where
   pub span-first : bitsBefore (view b) 0 ≡ 0
@@ -113,6 +114,7 @@ module _ (b : List ℕ) where
           someBit = c .someBit;
           rising = c .rising;
           fewBits = high-small b r k c;
+          lapped = c .lapped;
         }
 
     pub component-there : componentBegins (view b) (componentAt b k) ≡ wordsBegin (view b) (homeIn b k - 1) + (wordIn b k - 1) * bitsIn b (homeIn b k - 1) + (lowIn b k - 1)

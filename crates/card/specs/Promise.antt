@@ -5,7 +5,7 @@ use Prim.Native.Nat.{ℕ, _+_, _*_, _≤_, _<_}
 use lib.ListN.{getD}
 use Rattle.sample.specs.Component.{bitsOf}
 use Rattle.model.specs.Forms.{sheetLimits}
-use Rattle.model.specs.Samples.{piece}
+use Rattle.model.specs.Samples.{whole, piece}
 use Rattle.model.specs.Stored.{subframesIn}
 use Rattle.model.specs.View.{componentAt, view}
 use Rattle.rules.specs.Ruled.{subframesOf}
@@ -36,6 +36,7 @@ pub record SpanOf (b : List ℕ) (r : Span) : Type 0 where
 -- component k of all
 pub record RunOf (b : List ℕ) (k : ℕ) (r : Run) : Type 0 where
   pub at-is : r .at ≡ componentBegins (view b) (componentAt b k)
-  pub bits-is : r .bits ≡ bitsOf (piece (subframesOf b) (componentAt b k))
+  pub bits-is : r .bits ≡ bitsOf (whole (subframesOf b) (componentAt b k))
+  pub given-is : r .given ≡ bitsOf (piece (subframesOf b) (componentAt b k))
   pub few : r .bits ≤ sheetLimits .bits
   pub small : r .at ≤ mostRunAt

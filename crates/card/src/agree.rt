@@ -1,9 +1,8 @@
 // Record identifiers, compared where they stand in a stream.
 ghost use mathlib.Core.Path.{_≡_};
 ghost use Prim.Native.Nat.{_*_, _≤_, _<_};
-ghost use Rattle.sample.specs.Promise.{Joins};
 ghost use Rattle.model.specs.Forms.{limitsIn};
-ghost use Rattle.model.specs.Samples.{pieces};
+ghost use Rattle.model.specs.Samples.{holds};
 ghost use Rattle.model.specs.Stored.{parametersIn};
 ghost use Rattle.model.specs.View.{sampleAt, view};
 ghost use Rattle.model.specs.Facts.{SampleHere};
@@ -15,44 +14,45 @@ ghost use Rattle.carding.specs.Search.{readsAt, agreesAt};
 ghost use Rattle.card.specs.Promise.{BeginsOf};
 use super::spans::run_at;
 use model::limits::SUBFRAMES;
-use sample::joining::Joined;
 use stored::items::Opened;
 use stored::items::parameter_at;
 use stored::items::sample_at;
 use stream::bits_at;
 
-// Sample j of all, in the frame at p.
-fn joined_in(
+// Every component of sample j of all is, in the frame at p, its bits of v.
+fn holds_in(
     t: &[u8],
     o: Opened,
     stream: &[u8],
     p: usize,
     j: usize,
     begins: &[usize; SUBFRAMES],
-) -> Joined
+    v: u64,
+) -> bool
     requires { ⌜ RuledBy (now t) o ⌝ }
     requires { ⌜ BeginsOf (now t) (now begins) ⌝ }
     requires { ⌜ SampleHere (now t) j ⌝ }
     requires { ⌜ SampleLaw (limitsIn (now t)) (subframesOf (now t)) (sampleAt (now t) j) ⌝ }
     requires { ⌜ p ≤ 8 * longestStream ⌝ }
-    ensures { λ r. ⌜ Joins (frameAt (view (now (t .entry))) (now (stream .entry)) p) (pieces (subframesOf (now (t .entry))) (sampleAt (now (t .entry)) j)) r ⌝ }
+    ensures { λ r. ⌜ r ≡ holds (subframesOf (now (t .entry))) (frameAt (view (now (t .entry))) (now (stream .entry)) p) (sampleAt (now (t .entry)) j) v ⌝ }
 {
     let s = sample_at(t, o, j);
     let first = s.first;
     let count = s.count;
-    let mut raw: u64 = 0;
-    let mut width: u32 = 0;
+    let mut at: u32 = 0;
     let mut k = 0;
     while k < count {
         let c = run_at(t, o, first + k, begins);
-        raw += bits_at(stream, p + c.at, c.bits) * bits::power_of_two(width);
-        width += c.bits;
+        if bits_at(stream, p + c.at, c.bits) != bits::field_of(v, at, c.bits) {
+            return false;
+        }
+        at += c.given;
         k += 1;
     }
-    Joined { raw, width }
+    true
 }
 
-// Parameter i, if it is an identifier, reads its value in the frame at p.
+// Parameter i, if it is an identifier, is its value in the frame at p.
 fn reads_at(
     t: &[u8],
     o: Opened,
@@ -71,8 +71,7 @@ fn reads_at(
     if e.flags / 2 != 1 {
         return true;
     }
-    let s = joined_in(t, o, stream, p, e.first, begins);
-    s.raw == e.value as u64
+    holds_in(t, o, stream, p, e.first, begins, e.value as u64)
 }
 
 // Every identifier agrees in the frame at p.

@@ -80,14 +80,14 @@ fn sift_more(t: &[u8], o: Opened, i: usize, begins: &[usize; SUBFRAMES], sieve: 
     let m = sample_at(t, o, e.first);
     let first = m.first;
     let count = m.count;
+    let v = e.value as u64;
     let mut s = sieve;
-    let mut rest = e.value as u64;
+    let mut at: u32 = 0;
     let mut k = 0;
     while k < count {
         let c = run_at(t, o, first + k, begins);
-        let own = bits::power_of_two(c.bits);
-        s = s.with(c.at, c.bits, rest % own);
-        rest /= own;
+        s = s.with(c.at, c.bits, bits::field_of(v, at, c.bits));
+        at += c.given;
         k += 1;
     }
     s

@@ -1,4 +1,4 @@
--- Comparing passes exactly where every identifier reads its value. Assumes nothing.
+-- Comparing passes exactly where every identifier is its value. Assumes nothing.
 use mathlib.Core.Path.{_≡_, refl, sym, ap, _∙_}
 use mathlib.Core.Bool.{Bool, true, false, cond, _&&_, _||_, not}
 use mathlib.Core.List.{List}
@@ -9,14 +9,14 @@ use lib.Dec.{eqb, ltb}
 use Rattle.lay.specs.Below.{all, find}
 use Rattle.lay.proofs.Below.{all-below, all-made, any-made, find-least}
 use Rattle.lay.proofs.Tests.{refuse, differ, same-tests}
-use Rattle.model.specs.Content.{Content, parameter, parameters, subframes}
+use Rattle.model.specs.Content.{Content, parameter, parameters, sample, subframes}
+use Rattle.model.specs.Samples.{holds}
 use Rattle.model.specs.Identifiers.{lies}
 use Rattle.model.specs.Stored.{parametersIn, valueIn}
-use Rattle.model.specs.View.{identifierIn, view}
+use Rattle.model.specs.View.{identifierIn, parameterAt, view}
 use Rattle.model.proofs.Views.{parameters-view, parameter-view}
 use Rattle.rules.specs.Ruled.{Ruled}
 use Rattle.rules.proofs.Identifying.{identifier-at, value-at}
-use Rattle.framing.specs.Reading.{rawOf}
 use Rattle.framing.specs.Comparing.{differsAt, differsIn, comparedIn, comparedNumber}
 use Rattle.framing.specs.declared.compare.Compared.the-variants.{Passes, Differs}
 use Rattle.framing.proofs.CompareCases.{none-differs, all-agree}
@@ -27,7 +27,7 @@ use Rattle.carding.specs.Search.{agreesAt, readsAt}
 
 reads-same : (c : Content) (f : List ℕ) (s i : ℕ) → readsAt c f i ≡ true → differsAt c f s i ≡ false
 unfolding readsAt differsAt
-reads-same c f s i h = go (parameter c i .identifier) (eqb (lies (parameter c i)) s) (eqb (rawOf c f i 0) (parameter c i .value)) h
+reads-same c f s i h = go (parameter c i .identifier) (eqb (lies (parameter c i)) s) (holds (c .subframes) f (sample (parameter c i) 0) (parameter c i .value)) h
   where
     go : (a l e : Bool) → (not a || e) ≡ true → (a && (l && not e)) ≡ false
     go false l e h = refl
@@ -37,7 +37,7 @@ reads-same c f s i h = go (parameter c i .identifier) (eqb (lies (parameter c i)
 
 same-reads : (c : Content) (f : List ℕ) (s i : ℕ) → lies (parameter c i) ≡ s → differsAt c f s i ≡ false → readsAt c f i ≡ true
 unfolding readsAt differsAt
-same-reads c f s i q h = go (parameter c i .identifier) (eqb (lies (parameter c i)) s) (eqb (rawOf c f i 0) (parameter c i .value)) (eq-eqb _ _ q) h
+same-reads c f s i q h = go (parameter c i .identifier) (eqb (lies (parameter c i)) s) (holds (c .subframes) f (sample (parameter c i) 0) (parameter c i .value)) (eq-eqb _ _ q) h
   where
     go : (a l e : Bool) → l ≡ true → (a && (l && not e)) ≡ false → (not a || e) ≡ true
     go false l e q h = refl
@@ -47,14 +47,14 @@ same-reads c f s i q h = go (parameter c i .identifier) (eqb (lies (parameter c 
 
 -- the same over the bytes
 module _ (b f : List ℕ) (i : ℕ) (l : i < parametersIn b) where
-  stored : readsAt (view b) f i ≡ (not (identifierIn b i) || eqb (rawOf (view b) f i 0) (valueIn b i))
+  stored : readsAt (view b) f i ≡ (not (identifierIn b i) || holds (view b .subframes) f (sample (parameterAt b i) 0) (valueIn b i))
   unfolding readsAt
   stored = rw (parameter-view b i l, identifier-at b i, value-at b i)
 
   pub plain-reads : identifierIn b i ≡ false → readsAt (view b) f i ≡ true
   plain-reads h = stored ∙ rw h
 
-  pub identifier-reads : identifierIn b i ≡ true → readsAt (view b) f i ≡ eqb (rawOf (view b) f i 0) (valueIn b i)
+  pub identifier-reads : identifierIn b i ≡ true → readsAt (view b) f i ≡ holds (view b .subframes) f (sample (parameterAt b i) 0) (valueIn b i)
   identifier-reads h = stored ∙ rw h
 
 -- ---- all of them

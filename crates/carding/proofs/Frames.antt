@@ -16,7 +16,7 @@ use Rattle.sample.specs.Joining.{partOf}
 use Rattle.sample.specs.Component.{bitsOf}
 use Rattle.sample.proofs.Flats.{before-first, before-next}
 use Rattle.model.specs.Content.{Content, Component, subframe, subframes}
-use Rattle.model.specs.Samples.{wordCounts, piece}
+use Rattle.model.specs.Samples.{wordCounts, whole}
 use Rattle.model.specs.Frame.{frameWords, meets}
 use Rattle.model.specs.Meaning.{ComponentLaw}
 use Rattle.model.proofs.Frames.{meets-made}
@@ -75,8 +75,8 @@ module _ (c : Content) (y : List ℕ) (p : ℕ) where
       })
 
   -- what a component holds stands in the stream as it is: no word need be cut for it
-  pub frame-part : (d : Component) → ComponentLaw (c .subframes) d → partOf (frameAt c y p) (piece (c .subframes) d) ≡ bitsFrom y (p + componentBegins c d) (bitsOf (piece (c .subframes) d))
-  unfolding partOf piece position wordIn componentBegins
+  pub frame-part : (d : Component) → ComponentLaw (c .subframes) d → partOf (frameAt c y p) (whole (c .subframes) d) ≡ bitsFrom y (p + componentBegins c d) (bitsOf (whole (c .subframes) d))
+  unfolding partOf whole position wordIn componentBegins
   frame-part d r =
       let i : ℕ = d .subframe - 1 in
       let w : ℕ = d .word - 1 in

@@ -1,55 +1,34 @@
 -- A sample read straight from the stream is what the frame at that position gives. Assumes nothing.
 use mathlib.Core.Path.{_≡_, sym, ap, _∙_, subst}
-use mathlib.Core.Logic.{_⊎_, inl, inr}
-use mathlib.Core.List.{List, [], _∷_, _++_}
-use Prim.Native.Nat.{ℕ, zero, suc, _+_, _-_, _<_}
+use mathlib.Core.List.{List}
+use Prim.Native.Nat.{ℕ, _+_, _-_, _<_}
 use native.Mathlib.Omega.{arith}
+use lib.Dec.{eqb}
 use lib.ListN.{length, getD}
-use Rattle.bits.specs.Word.{bitAt}
+use Rattle.bits.specs.Word.{bitAt, field}
 use Rattle.lay.specs.Below.{tab}
-use Rattle.lay.proofs.Below.{sum-same, length-tab, getD-tab, getD-flat}
+use Rattle.lay.proofs.Below.{sum-same, all-same, length-tab, getD-tab, getD-flat}
 use Rattle.stream.specs.Stream.{streamBit}
 use Rattle.stream.proofs.Streams.{from-bit}
-use Rattle.sample.specs.declared.component.Component.{Component as Piece}
 use Rattle.sample.specs.Component.{Place, Names, Named}
 use Rattle.sample.specs.Flat.{before, position}
 use Rattle.sample.specs.Joining.{join}
 use Rattle.sample.specs.Source.{bitIn, gather, places}
 use Rattle.sample.proofs.Sources.{join-gather, sources-agree}
 use Rattle.model.specs.Content.{Content, Component, Parameter, Sample, subframe, subframes, parameter, sample, component}
-use Rattle.model.specs.Samples.{wordCounts, piece, pieces}
+use Rattle.model.specs.Samples.{wordCounts, whole, wholes, pieces, placeIn, holdsAt, holds}
+use Rattle.model.specs.Rules.{bitCount}
 use Rattle.model.specs.Limits.{Limits}
 use Rattle.model.specs.Forms.{limitsIn}
 use Rattle.model.specs.Meaning.{ComponentLaw, SampleLaw}
 use Rattle.model.specs.Stored.{parametersIn}
 use Rattle.model.specs.View.{view}
+use Rattle.model.proofs.Lapping.{tab-named, given-named}
 use Rattle.model.proofs.Views.{parameter-view}
 use Rattle.rules.specs.Ruled.{Ruled}
 use Rattle.framing.specs.Reading.{rawOf}
-use Rattle.carding.specs.Layout.{wordBegins, wordIn, frameAt, wordStarts, sourceAt, rawAt, Carries}
-use Rattle.carding.proofs.Frames.{before-sum, frame-word, frame-meets}
-
--- ---- some component of a list names a bit
-
-named-append : (xs ys : List Piece) (q : Place) → Named (xs ++ ys) q → Named xs q ⊎ Named ys q
-unfolding Named
-named-append [] ys q h = inr h
-named-append (x ∷ xs) ys q (inl h) = inl (inl h)
-named-append (x ∷ xs) ys q (inr h) = go (named-append xs ys q h)
-  where
-    go : Named xs q ⊎ Named ys q → (Names x q ⊎ Named xs q) ⊎ Named ys q
-    go (inl k) = inl (inr k)
-    go (inr k) = inr k
-
-tab-named : (n : ℕ) (g : ℕ → Piece) (q : Place) (A : Type 0) → ((k : ℕ) → k < n → Names (g k) q → A) → Named (tab n g) q → A
-unfolding Named
-tab-named zero g q A h e = absurd e
-tab-named (suc n) g q A h e = go (tab-named n g q A (λ k l. h k (omega arith))) (named-append (tab n g) (g n ∷ []) q e)
-  where
-    go : (Named (tab n g) q → A) → Named (tab n g) q ⊎ (Names (g n) q ⊎ ⊥) → A
-    go more (inl k) = more k
-    go more (inr (inl k)) = h n (omega arith) k
-    go more (inr (inr k)) = absurd k
+use Rattle.carding.specs.Layout.{wordBegins, wordIn, frameAt, wordStarts, sourceAt, rawAt, heldFrom, Carries}
+use Rattle.carding.proofs.Frames.{before-sum, frame-word, frame-meets, frame-part}
 
 -- ---- the frame and the stream, bit by bit
 
@@ -74,8 +53,8 @@ module _ (c : Content) (y : List ℕ) (p : ℕ) where
   pub frame-carries : Carries c y p (frameAt c y p)
   frame-carries = record { fits = frame-meets c y p; bit = frame-bit }
 
-  component-bit : (d : Component) → ComponentLaw (c .subframes) d → (q : Place) → Names (piece (c .subframes) d) q → sourceAt c y p q ≡ bitIn (frameAt c y p) q
-  unfolding sourceAt piece position
+  component-bit : (d : Component) → ComponentLaw (c .subframes) d → (q : Place) → Names (whole (c .subframes) d) q → sourceAt c y p q ≡ bitIn (frameAt c y p) q
+  unfolding sourceAt whole position
   component-bit d r q n =
       let i : ℕ = d .subframe - 1 in
       let w : ℕ = d .word - 1 in
@@ -88,16 +67,25 @@ module _ (c : Content) (y : List ℕ) (p : ℕ) where
       ∙ sym (frame-bit i w (q .bit) l m (omega (arith, r, n .1, n .2)))
       ∙ ap (λ (k : ℕ). bitAt (getD (frameAt c y p) k 0) (q .bit)) here
 
-  -- a bit that a sample names
-  pub named-bit : {lim : Limits} (s : Sample) → SampleLaw lim (c .subframes) s → (q : Place) → Named (pieces (c .subframes) s) q → sourceAt c y p q ≡ bitIn (frameAt c y p) q
-  unfolding pieces
+  -- a bit that some component of a sample names
+  pub named-bit : {lim : Limits} (s : Sample) → SampleLaw lim (c .subframes) s → (q : Place) → Named (wholes (c .subframes) s) q → sourceAt c y p q ≡ bitIn (frameAt c y p) q
+  unfolding wholes
   named-bit s r q h =
-      tab-named (length (s .components)) (λ k. piece (c .subframes) (component s k)) q _ (λ k l n. component-bit (component s k) (r .each k l) q n) h
+      tab-named (length (s .components)) (λ k. whole (c .subframes) (component s k)) q _ (λ k l n. component-bit (component s k) (r .each k l) q n) h
 
   pub sample-straight : {lim : Limits} (s : Sample) → SampleLaw lim (c .subframes) s → gather (sourceAt c y p) (places (pieces (c .subframes) s)) ≡ join (frameAt c y p) (pieces (c .subframes) s)
   sample-straight s r =
-      sources-agree (sourceAt c y p) (bitIn (frameAt c y p)) (pieces (c .subframes) s) (named-bit s r)
+      sources-agree (sourceAt c y p) (bitIn (frameAt c y p)) (pieces (c .subframes) s) (λ q h. named-bit s r q (given-named (c .subframes) s q h))
       ∙ sym (join-gather (frameAt c y p) (pieces (c .subframes) s))
+
+  -- and its components against a value, each where it stands
+  pub held-straight : {lim : Limits} (s : Sample) → SampleLaw lim (c .subframes) s → (v : ℕ) → heldFrom c y p s v ≡ holds (c .subframes) (frameAt c y p) s v
+  unfolding heldFrom holds holdsAt whole
+  held-straight s r v =
+      all-same (length (s .components)) _ (holdsAt (c .subframes) (frameAt c y p) s v)
+      (λ k l.
+      ap (λ (x : ℕ). eqb x (field v (placeIn (c .subframes) s k) (bitCount (component s k))))
+      (sym (frame-part c y p (component s k) (r .each k l))))
 
 -- of a table that the check accepts, every sample
 module _ (b y : List ℕ) (p i j : ℕ) (r : Ruled b) (l : i < parametersIn b) (m : j < length (parameter (view b) i .samples)) where
@@ -108,5 +96,8 @@ module _ (b y : List ℕ) (p i j : ℕ) (r : Ruled b) (l : i < parametersIn b) (
   unfolding rawAt rawOf
   straight = sample-straight (view b) y p (sample (parameter (view b) i) j) law
 
-  pub straight-bit : (q : Place) → Named (pieces (view b .subframes) (sample (parameter (view b) i) j)) q → sourceAt (view b) y p q ≡ bitIn (frameAt (view b) y p) q
+  pub straight-bit : (q : Place) → Named (wholes (view b .subframes) (sample (parameter (view b) i) j)) q → sourceAt (view b) y p q ≡ bitIn (frameAt (view b) y p) q
   straight-bit = named-bit (view b) y p (sample (parameter (view b) i) j) law
+
+  pub straight-held : (v : ℕ) → heldFrom (view b) y p (sample (parameter (view b) i) j) v ≡ holds (view b .subframes) (frameAt (view b) y p) (sample (parameter (view b) i) j) v
+  straight-held = held-straight (view b) y p (sample (parameter (view b) i) j) law

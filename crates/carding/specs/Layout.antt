@@ -1,17 +1,19 @@
 -- Where a frame's bits stand in a card's stream: "A subframe is its leading bits, words, trailing bits." Positions count bits
 -- from 0, and subframes and words are counted from 0 here. A frame at position p has its first bit there, the first leading one.
 use mathlib.Core.Path.{_≡_}
-use mathlib.Core.Bool.{true}
+use mathlib.Core.Bool.{Bool, true}
 use mathlib.Core.List.{List}
 use Prim.Native.Nat.{ℕ, _+_, _-_, _*_, _<_}
-use lib.ListN.{getD}
-use Rattle.bits.specs.Word.{bitAt}
-use Rattle.lay.specs.Below.{sum, tab, flat}
+use lib.Dec.{eqb}
+use lib.ListN.{length, getD}
+use Rattle.bits.specs.Word.{bitAt, field}
+use Rattle.lay.specs.Below.{sum, tab, flat, all}
 use Rattle.sample.specs.Flat.{before}
 use Rattle.sample.specs.Source.{Source, gather, places}
 use Rattle.model.specs.Margin.{marginBits}
-use Rattle.model.specs.Content.{Content, Component, Subframe, subframe, subframes, parameter, sample}
-use Rattle.model.specs.Samples.{wordCounts, pieces}
+use Rattle.model.specs.Content.{Content, Component, Sample, Subframe, subframe, subframes, parameter, sample, component}
+use Rattle.model.specs.Samples.{wordCounts, pieces, placeIn}
+use Rattle.model.specs.Rules.{bitCount}
 use Rattle.model.specs.Frame.{meets}
 use Rattle.stream.specs.Stream.{streamBit, bitsFrom}
 
@@ -63,3 +65,10 @@ rawAt c y p i j = gather (sourceAt c y p) (places (pieces (c .subframes) (sample
 -- where a component begins, counted from the frame's first bit; its subframe, word and bits count from 1
 unfoldable pub componentBegins : Content → Component → ℕ
 componentBegins c d = wordBegins c (d .subframe - 1) (d .word - 1) + (d .low - 1)
+
+-- every component of the sample s is its bits of v, each compared where it stands; that the frame at p gives the same is proved too
+unfoldable pub heldFrom : Content → List ℕ → ℕ → Sample → ℕ → Bool
+heldFrom c y p s v =
+    all (length (s .components)) (λ k.
+    eqb (bitsFrom y (p + componentBegins c (component s k)) (bitCount (component s k)))
+    (field v (placeIn (c .subframes) s k) (bitCount (component s k))))

@@ -6,8 +6,8 @@ use Prim.Native.Nat.{ℕ, _+_, _*_, _≤_, _<_}
 use lib.Dec.{eqb, leb}
 use lib.ListN.{length}
 use Rattle.lay.specs.Below.{find}
-use Rattle.model.specs.Content.{Content, parameter}
-use Rattle.framing.specs.Reading.{rawOf}
+use Rattle.model.specs.Content.{Content, parameter, sample}
+use Rattle.model.specs.Samples.{holds}
 use Rattle.framing.specs.Comparing.{comparedIn, comparedNumber}
 use Rattle.carding.specs.Layout.{frameBits, frameAt}
 
@@ -19,9 +19,9 @@ wholeAt c y p = leb (p + frameBits c) (8 * length y)
 unfoldable pub agreesAt : Content → List ℕ → ℕ → Bool
 agreesAt c y p = eqb (comparedNumber (comparedIn c (frameAt c y p))) 0
 
--- parameter i, if it is an identifier, reads its value: comparing passes exactly where all do (proofs/Agreeing.antt)
+-- parameter i, if it is an identifier, is its value in the frame: comparing passes exactly where all are (proofs/Agreeing.antt)
 unfoldable pub readsAt : Content → List ℕ → ℕ → Bool
-readsAt c f i = not (parameter c i .identifier) || eqb (rawOf c f i 0) (parameter c i .value)
+readsAt c f i = not (parameter c i .identifier) || holds (c .subframes) f (sample (parameter c i) 0) (parameter c i .value)
 
 -- such a position, at or after `from`
 abbrev pub soughtAt : Content → List ℕ → ℕ → ℕ → Bool

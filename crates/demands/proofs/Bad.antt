@@ -19,6 +19,7 @@ use Rattle.demands.proofs.Useless.{some-read-refused}
 -- a refused read is answered with 7 of 3 bits
 abbrev answered : Reading → Reading
 answered (reading.Sample r w v) = reading.Sample r w v
+answered (reading.OverlapDiffers r w v) = reading.OverlapDiffers r w v
 answered (reading.Refused w) = reading.Sample 7 3 (pos 7)
 
 -- the words are wiped on bad input
@@ -52,4 +53,5 @@ bad-refuted D = some-read-refused bad D (λ t f p s. go (readOf t f p s))
   where
     go : (r : Reading) → readNumber (answered r) ≡ 0
     go (reading.Sample r w v) = unfold readNumber in refl
+    go (reading.OverlapDiffers r w v) = unfold readNumber in refl
     go (reading.Refused w) = unfold readNumber in refl

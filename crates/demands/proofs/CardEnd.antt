@@ -1,5 +1,6 @@
 -- From the sheet and the card to the value: of any bench that meets the demands. Assumes nothing.
-use mathlib.Core.Path.{_≡_, sym, ap, subst, _∙_}
+use mathlib.Core.Path.{_≡_, sym, ap, ap₂, subst, _∙_}
+use mathlib.Core.Bool.{Bool, cond}
 use mathlib.Core.List.{List}
 use mathlib.Core.Logic.{_⊎_, inr, _↔_, ⊎-elim}
 use Prim.Native.Nat.{ℕ, _-_, _<_}
@@ -16,6 +17,7 @@ use Rattle.model.specs.Content.{Content, parameter, parameters}
 use Rattle.model.specs.Forms.{newest, formIn}
 use Rattle.model.specs.Frame.{frameWords}
 use Rattle.model.specs.Stored.{parametersIn}
+use Rattle.model.specs.Samples.{holds}
 use Rattle.model.specs.View.{view}
 use Rattle.model.proofs.Rows.{not-first}
 use Rattle.model.proofs.Views.{parameters-view}
@@ -25,23 +27,27 @@ use Rattle.table.specs.Answers.{checkNumber}
 use Rattle.table.proofs.Accepting.{accepted-ruled}
 use Rattle.framing.specs.Reading.{rawOf}
 use Rattle.framing.specs.declared.read.Reading.{Reading}
-use Rattle.carding.specs.Layout.{frameAt, sourceAt, rawAt, Carries}
+use Rattle.carding.specs.Layout.{frameAt, sourceAt, rawAt, heldFrom, Carries}
 use Rattle.carding.specs.Search.{FirstFrame}
 use Rattle.carding.specs.Answer.{SomeUnknown, cardedNumber}
 use Rattle.carding.specs.declared.carded.Carded.the-variants.{Found}
 use Rattle.carding.proofs.Back.{carried}
 use Rattle.carding.proofs.CardCases.{found-same}
 use Rattle.carding.proofs.Untold.{not-told, refused-exactly}
-use Rattle.carding.proofs.Straight.{straight, straight-bit}
+use Rattle.carding.proofs.Straight.{straight, straight-bit, straight-held}
 use Rattle.demands.specs.Calls.{Calls}
-use Rattle.demands.specs.Refusing.{componentsOf, firstBroken, checkRules, cardRules}
-use Rattle.demands.specs.Demands.{HasSample, answerFor, SameAnswers, SameBits, Demands}
+use Rattle.demands.specs.Refusing.{sampleOf, componentsOf, namedOf, firstBroken, checkRules, cardRules}
+use Rattle.demands.specs.Demands.{HasSample, answerFor, differsFor, copiesAgree, SameAnswers, SameBits, NoOverlap, Demands}
 use Rattle.demands.proofs.Cards.{card-number, Findable, findable}
 use Rattle.demands.proofs.Unbroken.{holds-first}
 
--- what a read of sample j of parameter q must answer, by the sheet and the card: its bits joined where they stand in the stream
+-- what a read of sample j of parameter q must answer, by the sheet and the card: its bits joined where they stand in the stream, and
+-- held against what stands there
 abbrev pub readFrom : Content → List ℕ → ℕ → ℕ → ℕ → Reading
-readFrom c y p q j = answerFor c q j (rawAt c y p (q - 1) (j - 1))
+readFrom c y p q j =
+    cond (heldFrom c y p (sampleOf c q j) (rawAt c y p (q - 1) (j - 1)))
+    (answerFor c q j (rawAt c y p (q - 1) (j - 1)))
+    (differsFor c q j (rawAt c y p (q - 1) (j - 1)))
 
 -- a card found at p, by a table t that says c
 pub record CardAsSaid (B : Calls) (t y : List ℕ) (from : ℕ) (w : List ℕ) (p n : ℕ) (c : Content) : Type 0 where
@@ -51,7 +57,7 @@ pub record CardAsSaid (B : Calls) (t y : List ℕ) (from : ℕ) (w : List ℕ) (
 
 -- two cards' streams agree at every bit that some component names, each counted from its own frame's position
 pub record SameStreams (c : Content) (y : List ℕ) (p : ℕ) (z : List ℕ) (q : ℕ) : Type 0 where
-  pub each : (k j : ℕ) → HasSample c k j → (x : Place) → Named (componentsOf c k j) x → sourceAt c y p x ≡ sourceAt c z q x
+  pub each : (k j : ℕ) → HasSample c k j → (x : Place) → Named (namedOf c k j) x → sourceAt c y p x ≡ sourceAt c z q x
 
 module _ (B : Calls) (D : Demands B) where
   -- 26, exactly "for form 1 or for an unknown margin"
@@ -107,15 +113,21 @@ module _ (B : Calls) (D : Demands B) where
           ap (λ (f : List ℕ). join f (componentsOf (view t) q j)) handed-is
           ∙ sym (straight t y p (q - 1) (j - 1) (accepted-ruled t (fits .accepted)) listed sampled)
 
-      bit-straight : (x : Place) → Named (componentsOf (view t) q j) x → bitIn handed x ≡ sourceAt (view t) y p x
-      unfolding componentsOf
+      bit-straight : (x : Place) → Named (namedOf (view t) q j) x → bitIn handed x ≡ sourceAt (view t) y p x
+      unfolding namedOf
       bit-straight x h =
           ap (λ (f : List ℕ). bitIn f x) handed-is
           ∙ sym (straight-bit t y p (q - 1) (j - 1) (accepted-ruled t (fits .accepted)) listed sampled x h)
 
+      agree-straight : copiesAgree (view t) handed q j ≡ heldFrom (view t) y p (sampleOf (view t) q j) (rawAt (view t) y p (q - 1) (j - 1))
+      agree-straight =
+          ap₂ (λ (f : List ℕ) (v : ℕ). holds (view t .subframes) f (sampleOf (view t) q j) v) handed-is raw-straight
+          ∙ sym (straight-held t y p (q - 1) (j - 1) (accepted-ruled t (fits .accepted)) listed sampled (rawAt (view t) y p (q - 1) (j - 1)))
+
       read-straight : B .read t handed q j ≡ readFrom (view t) y p q j
       read-straight =
-          D .two .joined t handed q j (D .three .handed-fits t y from w p n e .fitting) l ∙ ap (answerFor (view t) q j) raw-straight
+          D .two .joined t handed q j (D .three .handed-fits t y from w p n e .fitting) l
+          ∙ ap₂ (λ (a : Bool) (r : ℕ). cond a (answerFor (view t) q j r) (differsFor (view t) q j r)) agree-straight raw-straight
 
     pub card-as-said : CardAsSaid B t y from w p n (view t)
     card-as-said = record { first = found-first; carries = found-carries; reads = read-straight }
@@ -140,7 +152,8 @@ module _ (B : Calls) (D : Demands B) where
       let r = margins-refused t y from w passes (subst (λ (d : Content). parameters d ≡ 0 → ⊥) (sym v) some) in
       (λ e. subst SomeUnknown v (⊎-elim (λ o. absurd (newer o)) (λ u. u) (r .0 e)), λ u. r .1 (inr (subst SomeUnknown (sym v) u)))
 
-  -- demand 3 over cards: two of them give equal answers for all samples exactly when their streams agree at every named bit
+  -- demand 3 over cards: two of them whose streams agree at every named bit give equal answers for all samples; by a table without
+  -- overlap exactly then
   module _ (t y : List ℕ) (from : ℕ) (w : List ℕ) (p n : ℕ) (e : B .cardFrom t y from w ≡ Found p n)
       (z : List ℕ) (since : ℕ) (v : List ℕ) (q m : ℕ) (d : B .cardFrom t z since v ≡ Found q m) where
     abbrev f : List ℕ
@@ -149,11 +162,15 @@ module _ (B : Calls) (D : Demands B) where
     abbrev g : List ℕ
     g = take m (B .handedFrom t z since v)
 
-    frames : SameAnswers B t f g ↔ SameBits t f g
-    frames = D .three .exactly t f g (D .three .handed-fits t y from w p n e .fitting) (D .three .handed-fits t z since v q m d .fitting)
+    same-bits : SameStreams (view t) y p z q → SameBits t f g
+    same-bits s = record { each = λ k j l x h. bit-straight t y from w p n e k j l x h ∙ s .each k j l x h ∙ sym (bit-straight t z since v q m d k j l x h) }
 
-    pub cards-exactly : SameAnswers B t f g ↔ SameStreams (view t) y p z q
-    cards-exactly = (
-      λ a. record { each = λ k j l x h. sym (bit-straight t y from w p n e k j l x h) ∙ frames .0 a .each k j l x h ∙ bit-straight t z since v q m d k j l x h },
-      λ s. frames .1 (record { each = λ k j l x h. bit-straight t y from w p n e k j l x h ∙ s .each k j l x h ∙ sym (bit-straight t z since v q m d k j l x h) }),
-    )
+    pub cards-alike : SameStreams (view t) y p z q → SameAnswers B t f g
+    cards-alike s = D .three .alike t f g (D .three .handed-fits t y from w p n e .fitting) (D .three .handed-fits t z since v q m d .fitting) (same-bits s)
+
+    pub cards-exactly : NoOverlap (view t) → SameAnswers B t f g ↔ SameStreams (view t) y p z q
+    cards-exactly plain =
+        let frames = D .three .exactly t f g (D .three .handed-fits t y from w p n e .fitting) (D .three .handed-fits t z since v q m d .fitting) plain in (
+          λ a. record { each = λ k j l x h. sym (bit-straight t y from w p n e k j l x h) ∙ frames .0 a .each k j l x h ∙ bit-straight t z since v q m d k j l x h },
+          cards-alike,
+        )

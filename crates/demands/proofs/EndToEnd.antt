@@ -4,7 +4,6 @@ use mathlib.Core.Bool.{true}
 use mathlib.Core.List.{List}
 use Prim.Native.Nat.{ℕ}
 use lib.ListN.{take}
-use Rattle.sample.specs.Joining.{join}
 use Rattle.model.specs.Content.{Content}
 use Rattle.model.specs.Frame.{meets}
 use Rattle.model.specs.View.{view}
@@ -14,12 +13,11 @@ use Rattle.maker.specs.declared.make.Made.the-variants as made
 use Rattle.table.specs.declared.check.Checked.the-variants.{Table}
 use Rattle.framing.specs.declared.read.Reading.{Reading}
 use Rattle.demands.specs.Calls.{Calls}
-use Rattle.demands.specs.Refusing.{componentsOf}
-use Rattle.demands.specs.Demands.{HasSample, answerFor, Demands}
+use Rattle.demands.specs.Demands.{HasSample, answerIn, Demands}
 
 -- what a read of sample s of parameter p must answer, by what the sheet says
 abbrev pub readBy : Content → List ℕ → ℕ → ℕ → Reading
-readBy c f p s = answerFor c p s (join f (componentsOf c p s))
+readBy c f p s = answerIn c f p s
 
 -- by a table made of a sheet that says c
 pub record ReadAsSaid (B : Calls) (s l : List ℕ) (n : ℕ) (c : Content) : Type 0 where

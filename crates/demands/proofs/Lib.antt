@@ -9,11 +9,13 @@ pub mod Only
 pub mod Determined
 pub mod EndToEnd
 pub mod CardEnd
+pub mod Unlapped
 pub mod AsBefore
 pub mod Wall
 pub mod Useless
 pub mod UselessCards
 pub mod Slips
+pub mod Overlapping
 pub mod Bad
 pub mod WallListed
 pub mod AllExamples

@@ -1,7 +1,7 @@
 -- Whoever keeps the promises of the bench meets the demands. Assumes nothing.
 use Prim.Native.Nat.{ℕ, _-_, _^_, _≤_, _<_}
 use native.Mathlib.Omega.{arith}
-use mathlib.Core.Bool.{Bool, true, false, cond}
+use mathlib.Core.Bool.{Bool, true, false, cond, _&&_}
 use mathlib.Core.Path.{_≡_, refl, sym, ap, subst, _∙_}
 use mathlib.Core.List.{List}
 use mathlib.Core.Logic.{_⊎_, inl, inr}
@@ -19,7 +19,7 @@ use Rattle.model.specs.Accepts.{accepts}
 use Rattle.model.specs.Content.{Content}
 use Rattle.model.specs.Forms.{newest, sheetLimits, formIn}
 use Rattle.model.specs.Frame.{meets}
-use Rattle.model.specs.Samples.{widthOf}
+use Rattle.model.specs.Samples.{widthOf, overlapped}
 use Rattle.model.specs.View.{view}
 use Rattle.model.specs.Write.{write}
 use Rattle.model.proofs.Views.{parameters-view, samples-are}
@@ -35,12 +35,13 @@ use Rattle.maker.proofs.MadeTables.{TooSmall as SmallTable, made-table, left-al
 use Rattle.table.specs.Answers.{checkOf, checkNumber, askedNumber, askedMnemonic}
 use Rattle.table.specs.declared.check.Checked.the-variants as checked
 use Rattle.framing.specs.Wanted.{wantedOf}
-use Rattle.framing.specs.Reading.{rawOf, widthIs, valueOf, sampleRead, readOf, readNumber}
-use Rattle.framing.specs.Placing.{placeFor, placeOf, placedFor, placedOf, placeNumber}
+use Rattle.framing.specs.Reading.{rawOf, widthIs, valueOf, copiesAgree, sampleRead, readOf, readNumber}
+use Rattle.framing.specs.Placing.{lapsIn, placeFor, placeOf, placedFor, placedOf, placeNumber}
 use Rattle.framing.specs.Comparing.{comparedNumber}
 use Rattle.framing.specs.declared.want.Wanted.{Wanted}
 use Rattle.framing.specs.declared.want.Wanted.the-variants as wanted
 use Rattle.framing.specs.declared.place.Placed.the-variants as placing
+use Rattle.table.specs.declared.reason.Reason.the-variants.{Overlapped}
 use Rattle.framing.proofs.Agree.{Lists, answers-bits, bits-answers}
 use Rattle.framing.proofs.Answered.{answered, raw-below}
 use Rattle.framing.proofs.PlaceRead.{placing as placing-done, placed-other as other-kept, placed-read}
@@ -48,8 +49,8 @@ use Rattle.carding.specs.Answer.{cardedNumber}
 use Rattle.carding.specs.declared.carded.Carded.the-variants.{Found}
 use Rattle.carding.proofs.Next.{found-stands}
 use Rattle.demands.specs.Calls.{Calls, Kept}
-use Rattle.demands.specs.Refusing.{componentsOf, firstBroken, cardRules}
-use Rattle.demands.specs.Demands.{HasSample, meaning, answerFor, Fitting, SheetRefused, One, SheetTaken, NameAnswered, Two, SameAnswers, SameBits, FrameHanded, FrameFits, Three, Demands}
+use Rattle.demands.specs.Refusing.{sampleOf, componentsOf, namedOf, firstBroken, cardRules}
+use Rattle.demands.specs.Demands.{HasSample, meaning, answerFor, copiesAgree as copied, answerIn, Fitting, SheetRefused, One, SheetTaken, NameAnswered, Two, SameAnswers, SameBits, NoOverlap, FrameHanded, FrameFits, Three, Demands}
 use Rattle.demands.proofs.Numbers.{check-number, read-number, place-number, compare-number, name-number, mnemonic-number}
 use Rattle.demands.proofs.Cards.{card-number, bits-known, bits-unknown, card-unchanged, findable, frame-handed, front-meets, front-passes, found-findable}
 use Rattle.demands.proofs.Parts.{unnamed-part, name-asked, mnemonic-asked, named-part, first-differing}
@@ -93,8 +94,12 @@ listed-of t p s l =
 -- a placing that is refused leaves the words as they were
 placing-unchanged : (t f : List ℕ) (p s v : ℕ) → (placeNumber (placeOf t f p s v) ≡ 0 → ⊥) → placedOf t f p s v ≡ f
 unfolding placeFor placeOf placedFor placedOf placeNumber
-placing-unchanged t f p s v n = go (wantedOf t f p s) n
+placing-unchanged t f p s v n = laps (accepts t && lapsIn (view t) p s) (go (wantedOf t f p s)) n
   where
+    laps : (b : Bool) → ((placeNumber (placeFor (view t) (wantedOf t f p s) v) ≡ 0 → ⊥) → placedFor (view t) f (wantedOf t f p s) v ≡ f) → (placeNumber (cond b (placing.Refused Overlapped) (placeFor (view t) (wantedOf t f p s) v)) ≡ 0 → ⊥) → cond b f (placedFor (view t) f (wantedOf t f p s) v) ≡ f
+    laps true rest m = refl
+    laps false rest m = rest m
+
     fit : (i j : ℕ) (b : Bool) → ltb v (2 ^ widthIs (view t) i j) ≡ b → (placeNumber (placeFor (view t) (wanted.Listed i j) v) ≡ 0 → ⊥) → placedFor (view t) f (wanted.Listed i j) v ≡ f
     fit i j true e m = absurd (m (rw e))
     fit i j false e m = rw e
@@ -164,8 +169,8 @@ module _ (B : Calls) (K : Kept B) where
     passed : accepts t ≡ true
     passed = accepts-of t (sym (K .checks t) ∙ h)
 
-    read-joined : (f : List ℕ) → meets (view t) f ≡ true → B .read t f p s ≡ answerFor (view t) p s (join f (componentsOf (view t) p s))
-    unfolding sampleRead rawOf widthIs valueOf widthOf componentsOf meaning
+    read-joined : (f : List ℕ) → meets (view t) f ≡ true → B .read t f p s ≡ answerIn (view t) f p s
+    unfolding sampleRead copiesAgree rawOf widthIs valueOf widthOf componentsOf meaning
     read-joined f m =
         let k = lists-of t p s l in
         K .reads t f p s ∙ answered t f p s passed m (k .parameter-least) (k .parameter-most) (k .sample-least) (k .sample-most)
@@ -174,12 +179,12 @@ module _ (B : Calls) (K : Kept B) where
     unfolding rawOf widthIs widthOf componentsOf
     below-width f = raw-below (view t) f (p - 1) (s - 1)
 
-    module _ (f : List ℕ) (m : meets (view t) f ≡ true) (v : ℕ) (d : v < 2 ^ width (componentsOf (view t) p s)) where
+    module _ (z : overlapped (sampleOf (view t) p s) ≡ false) (f : List ℕ) (m : meets (view t) f ≡ true) (v : ℕ) (d : v < 2 ^ width (componentsOf (view t) p s)) where
       value-done : B .place t f p s v ≡ placing.Done
       unfolding widthIs widthOf componentsOf
       value-done =
           let k = lists-of t p s l in
-          K .places t f p s v .0 ∙ placing-done t p s passed (k .parameter-least) (k .parameter-most) (k .sample-least) (k .sample-most) f m v d
+          K .places t f p s v .0 ∙ placing-done t p s passed (k .parameter-least) (k .parameter-most) (k .sample-least) (k .sample-most) z f m v d
 
       read-back : B .read t (B .placed t f p s v) p s ≡ answerFor (view t) p s v
       unfolding widthIs widthOf componentsOf meaning
@@ -187,14 +192,14 @@ module _ (B : Calls) (K : Kept B) where
           let k = lists-of t p s l in
           K .reads t (B .placed t f p s v) p s
           ∙ (ap (λ (x : List ℕ). readOf t x p s) (K .places t f p s v .1)
-          ∙ placed-read t p s passed (k .parameter-least) (k .parameter-most) (k .sample-least) (k .sample-most) f m v d)
+          ∙ placed-read t p s passed (k .parameter-least) (k .parameter-most) (k .sample-least) (k .sample-most) z f m v d)
 
       kept-outside : (q : Place) → (Named (componentsOf (view t) p s) q → ⊥) → bitIn (B .placed t f p s v) q ≡ bitIn f q
       unfolding widthIs widthOf componentsOf
       kept-outside q o =
           let k = lists-of t p s l in
           ap (λ (x : List ℕ). bitIn x q) (K .places t f p s v .1)
-          ∙ other-kept t p s passed (k .parameter-least) (k .parameter-most) (k .sample-least) (k .sample-most) f m v d q o
+          ∙ other-kept t p s passed (k .parameter-least) (k .parameter-most) (k .sample-least) (k .sample-most) z f m v d q o
 
   -- ---- 2
 
@@ -236,7 +241,7 @@ module _ (B : Calls) (K : Kept B) where
         sheet = sheet;
         named = named;
         joined = λ t f p s h l. read-joined t (h .passes) p s l f (h .fits);
-        placed = λ t f p s v h l d. record { done = value-done t (h .passes) p s l f (h .fits) v d; back = read-back t (h .passes) p s l f (h .fits) v d; other = kept-outside t (h .passes) p s l f (h .fits) v d };
+        placed = λ t f p s v h l z d. record { done = value-done t (h .passes) p s l z f (h .fits) v d; back = read-back t (h .passes) p s l z f (h .fits) v d; other = kept-outside t (h .passes) p s l z f (h .fits) v d };
         found = frame-found;
         first-of-all = λ t y w. record { answer = K .cards t y w .0 ∙ sym (K .cards-from t y 0 w .0); words = K .cards t y w .1 ∙ sym (K .cards-from t y 0 w .1) };
         frame-bits = λ t h. K .counts-bits t ∙ bits-known t h;
@@ -248,15 +253,15 @@ module _ (B : Calls) (K : Kept B) where
     passing : accepts t ≡ true
     passing = accepts-of t (sym (K .checks t) ∙ h .passes)
 
-    same-bits : SameAnswers B t f g → SameBits t f g
-    unfolding componentsOf
-    same-bits a =
+    same-bits : NoOverlap (view t) → SameAnswers B t f g → SameBits t f g
+    unfolding namedOf
+    same-bits z a =
         record {
-          each = λ p s l. answers-bits t f g passing (h .fits) (n .fits) (record { each = λ p′ s′ k. sym (K .reads t f p′ s′) ∙ (a .each p′ s′ (listed-of t p′ s′ k) ∙ K .reads t g p′ s′) }) .each p s (lists-of t p s l);
+          each = λ p s l. answers-bits t f g passing (h .fits) (n .fits) (record { each = λ p′ s′ k. z .each p′ s′ (listed-of t p′ s′ k) }) (record { each = λ p′ s′ k. sym (K .reads t f p′ s′) ∙ (a .each p′ s′ (listed-of t p′ s′ k) ∙ K .reads t g p′ s′) }) .each p s (lists-of t p s l);
         }
 
     same-answers : SameBits t f g → SameAnswers B t f g
-    unfolding componentsOf
+    unfolding namedOf
     same-answers a =
         record {
           each = λ p s l. K .reads t f p s ∙ (bits-answers t f g passing (h .fits) (n .fits) (record { each = λ p′ s′ k. a .each p′ s′ (listed-of t p′ s′ k) }) .each p s (lists-of t p s l) ∙ sym (K .reads t g p s));
@@ -276,8 +281,9 @@ module _ (B : Calls) (K : Kept B) where
   three =
       record {
         passes = λ s l n h. K .checks (take n (B .made s l)) ∙ (ap (λ (x : List ℕ). checkOf (take n x)) (K .makes s l .1) ∙ check-of (take n (leftOf (judgeOf s) l)) (made-table s l n (sym (K .makes s l .0) ∙ h) .passes));
-        answers = λ t f p s h l. record { raw = join f (componentsOf (view t) p s); wide = width (componentsOf (view t) p s); value = meaning (view t) p s (join f (componentsOf (view t) p s)); is = read-joined t (h .passes) p s l f (h .fits); below = below-width t (h .passes) p s l f };
-        exactly = λ t f g h n. (same-bits t f g h n, same-answers t f g h n);
+        answers = λ t f p s h l. record { raw = join f (componentsOf (view t) p s); wide = width (componentsOf (view t) p s); value = meaning (view t) p s (join f (componentsOf (view t) p s)); agree = copied (view t) f p s; is = read-joined t (h .passes) p s l f (h .fits); below = below-width t (h .passes) p s l f };
+        exactly = λ t f g h n z. (same-bits t f g h n z, same-answers t f g h n);
+        alike = λ t f g h n. same-answers t f g h n;
         handed-fits = handed-fits;
       }
 

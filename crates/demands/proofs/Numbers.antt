@@ -6,6 +6,7 @@ use mathlib.Core.Path.{_≡_, refl, ap, _∙_}
 use mathlib.Core.List.{List}
 use borrow.Author.Tests.{ltb-true, lt-ltb}
 use lib.Dec.{leb, ltb}
+use lib.IntN.{ℤ}
 use lib.ListN.{length}
 use Rattle.lay.specs.Below.{any, find}
 use Rattle.lay.proofs.Below.{any-some, any-made, find-least, find-holds}
@@ -14,23 +15,25 @@ use Rattle.lay.specs.Bytes.{same}
 use Rattle.model.specs.Accepts.{accepts}
 use Rattle.model.specs.Content.{parameter, parameters, subframes}
 use Rattle.model.specs.Frame.{wordsOk}
-use Rattle.model.specs.Samples.{widthOf}
+use Rattle.model.specs.Samples.{widthOf, overlapped}
 use Rattle.model.specs.View.{view}
 use Rattle.table.specs.Answers.{checkOf, checkNumber, numberedOf, mnemonicIs, called, askedNumber, askedMnemonic, askedRefusal}
 use Rattle.table.specs.declared.check.Checked.the-variants as checked
 use Rattle.table.specs.declared.naming.Asked.the-variants as asked
 use Rattle.framing.specs.Fitting.{fitOf}
 use Rattle.framing.specs.Wanted.{fitted, wantedIn, wantedOf}
-use Rattle.framing.specs.Reading.{widthIs, readFor, readOf, readNumber, sampleRead}
-use Rattle.framing.specs.Placing.{placeFor, placeOf, placeNumber}
+use Rattle.framing.specs.Reading.{rawOf, widthIs, valueOf, copiesAgree, readFor, readOf, readNumber, sampleRead}
+use Rattle.framing.specs.declared.read.Reading.the-variants.{Sample, OverlapDiffers}
+use Rattle.framing.specs.Placing.{lapsIn, placeFor, placeOf, placeNumber}
+use Rattle.framing.specs.declared.place.Placed.the-variants as placing
 use Rattle.framing.specs.Comparing.{differsIn, comparedIn, fittedCompared, comparedOf, comparedNumber}
 use Rattle.framing.specs.declared.fit.Fit.the-variants.{Fits, Refused}
 use Rattle.table.specs.Reasons.{reasonNumber}
-use Rattle.table.specs.declared.reason.Reason.the-variants.{NoTable, OtherCount, HighWord, NoParameter, NoSample}
+use Rattle.table.specs.declared.reason.Reason.the-variants.{Overlapped, NoTable, OtherCount, HighWord, NoParameter, NoSample}
 use Rattle.framing.specs.declared.want.Wanted.{Wanted}
 use Rattle.framing.specs.declared.want.Wanted.the-variants as wanted
 use Rattle.framing.specs.declared.compare.Compared.the-variants as compared
-use Rattle.demands.specs.Refusing.{componentsOf, hasParameter, hasSample, asManyWords, firstBroken, checkRules, readRules, placeRules, compareRules, nameRules, mnemonicRules}
+use Rattle.demands.specs.Refusing.{sampleOf, componentsOf, hasParameter, hasSample, asManyWords, firstBroken, checkRules, readRules, placeRules, compareRules, nameRules, mnemonicRules}
 
 -- the first number below n of which p holds is below n exactly where there is one
 pub found-any : (n : ℕ) (p : ℕ → Bool) → ltb (find n p) n ≡ any n p
@@ -78,25 +81,31 @@ pub read-number : (t f : List ℕ) (p s : ℕ) → readNumber (readOf t f p s) �
 unfolding readOf readFor sampleRead readNumber
 read-number t f p s = go (wantedOf t f p s) ∙ wanted-number t f p s
   where
+    either : (x w : ℕ) (v : ℤ) (a : Bool) → readNumber (cond a (Sample x w v) (OverlapDiffers x w v)) ≡ 0
+    either x w v true = refl
+    either x w v false = refl
+
     go : (w : Wanted) → readNumber (readFor (view t) f w) ≡ wantedNumber w
-    go (wanted.Listed i j) = refl
+    go (wanted.Listed i j) = either (rawOf (view t) f i j) (widthIs (view t) i j) (valueOf (view t) f i j) (copiesAgree (view t) f i j)
     go (wanted.Refused r) = refl
 
 pub place-number : (t f : List ℕ) (p s v : ℕ) → placeNumber (placeOf t f p s v) ≡ firstBroken (placeRules t f p s v)
-unfolding placeOf placeFor placeNumber reasonNumber wantedOf wantedIn fitted fitOf widthIs widthOf componentsOf firstBroken
-place-number t f p s v = go (accepts t) (hasParameter (view t) p) (hasSample (view t) p s) (asManyWords (view t) f) (wordsOk (view t) f)
+unfolding placeOf lapsIn placeFor placeNumber reasonNumber wantedOf wantedIn fitted fitOf widthIs widthOf componentsOf firstBroken
+place-number t f p s v =
+    go (accepts t) (hasParameter (view t) p) (hasSample (view t) p s) (overlapped (sampleOf (view t) p s)) (asManyWords (view t) f) (wordsOk (view t) f)
   where
     last : (b : Bool) → ltb v (2 ^ widthIs (view t) (p - 1) (s - 1)) ≡ b → placeNumber (placeFor (view t) (wanted.Listed (p - 1) (s - 1)) v) ≡ cond b 0 23
     last true e = rw e
     last false e = rw e
 
-    go : (a b d e g : Bool) → placeNumber (placeFor (view t) (byTests a b d e g (p - 1) (s - 1)) v) ≡ cond a (cond b (cond d (cond e (cond g (cond (ltb v (2 ^ widthIs (view t) (p - 1) (s - 1))) 0 23) 20) 19) 22) 21) 18
-    go false b d e g = refl
-    go true false d e g = refl
-    go true true false e g = refl
-    go true true true false g = refl
-    go true true true true false = refl
-    go true true true true true = last (ltb v (2 ^ widthIs (view t) (p - 1) (s - 1))) refl
+    go : (a b d o e g : Bool) → placeNumber (cond (a && (b && (d && o))) (placing.Refused Overlapped) (placeFor (view t) (byTests a b d e g (p - 1) (s - 1)) v)) ≡ cond a (cond b (cond d (cond (not o) (cond e (cond g (cond (ltb v (2 ^ widthIs (view t) (p - 1) (s - 1))) 0 23) 20) 19) 10) 22) 21) 18
+    go false b d o e g = refl
+    go true false d o e g = refl
+    go true true false o e g = refl
+    go true true true true e g = refl
+    go true true true false false g = refl
+    go true true true false true false = refl
+    go true true true false true true = last (ltb v (2 ^ widthIs (view t) (p - 1) (s - 1))) refl
 
 -- ---- comparing
 

@@ -3,13 +3,12 @@
 use Prim.Native.Nat.{ℕ, _-_, _^_, _≤_, _<_}
 use native.Mathlib.Omega.{arith}
 use native.Mathlib.Decide.{decLe, decLt, ℕ-discrete}
-use mathlib.Core.Bool.{true}
+use mathlib.Core.Bool.{true, false}
 use mathlib.Core.Path.{_≡_, refl, sym, ap, ap₂, subst, _∙_}
 use mathlib.Core.List.{List}
 use mathlib.Core.Logic.{inl, inr}
 use denote.Ref.{RefT, now}
 use borrow.Author.Tests.{le-leb, lt-leb, ltb-true}
-use lib.IntN.{ℤ}
 use lib.ListN.{length, take, take-append-drop}
 use Rattle.sample.specs.Component.{Place, Named}
 use Rattle.sample.specs.declared.component.Component.{Component}
@@ -21,6 +20,7 @@ use Rattle.model.specs.Accepts.{accepts}
 use Rattle.model.specs.Content.{Content}
 use Rattle.model.specs.Forms.{newest}
 use Rattle.model.specs.Frame.{meets}
+use Rattle.model.specs.Samples.{overlapped}
 use Rattle.model.specs.View.{view}
 use Rattle.model.specs.Write.{write}
 use Rattle.model.proofs.Statements.{accepted-writing}
@@ -36,15 +36,14 @@ use Rattle.table.specs.declared.naming.Asked.the-variants as asked
 use Rattle.framing.specs.Reading.{readOf, readNumber}
 use Rattle.framing.specs.Placing.{placeOf, placedOf}
 use Rattle.framing.specs.Comparing.{comparedOf}
-use Rattle.framing.specs.declared.read.Reading.the-variants.{Sample}
 use Rattle.demands.specs.Calls.{Calls, Kept}
-use Rattle.demands.specs.Refusing.{componentsOf, firstBroken, readRules, placeRules, nameRules, mnemonicRules, cardRules, bitsRules}
+use Rattle.demands.specs.Refusing.{sampleOf, componentsOf, firstBroken, readRules, placeRules, nameRules, mnemonicRules, cardRules, bitsRules}
 use Rattle.demands.specs.Demands.{answerFor, Fitting, EmptyPart, NamePart, ValuePlaced, Demands}
 use Rattle.demands.proofs.Numbers.{read-number, place-number, compare-number, name-number, mnemonic-number}
 use Rattle.demands.proofs.Parts.{name-asked, mnemonic-found, first-differing}
-use Rattle.demands.proofs.Told.{same-reading, same-placing, same-checked, same-compared}
+use Rattle.demands.proofs.Told.{raw-in, answer-raw, same-reading, same-placing, same-checked, same-compared}
 use Rattle.demands.proofs.Cards.{card-number, findable, handed-alike, same-carded}
-use Rattle.demands.proofs.Unbroken.{Readable, readable, long, place-readable}
+use Rattle.demands.proofs.Unbroken.{Readable, readable, long, placeable}
 use Rattle.demands.proofs.Meeting.{accepts-of, check-of}
 use Rattle.demands.proofs.Ours.{ours, ours-meets}
 
@@ -59,9 +58,6 @@ one-frame g h cs l j o = frame-ext g h l (λ q. go q (ℕ-discrete (bitIn g q) (
 
 some : (n : ℕ) → (0 < n → ⊥) → n ≡ 0
 some n h = omega arith
-
-raws : {a b v w : ℕ} {x y : ℤ} → Sample a v x ≡ Sample b w y → a ≡ b
-raws e = cc
 
 -- the name that is asked for, or the empty part, as the promise has it
 part-named : (t r : RefT (List ℕ)) (i : ℕ) → NamePart t r i → NameOf t r (asked.Parameter i)
@@ -105,18 +101,18 @@ module _ (B : Calls) (D : Demands B) where
       D .one .place-unchanged t f p s v (λ e. omega arith) ∙ sym (ours-meets .one .place-unchanged t f p s v (λ e. omega arith)),
     )
 
-    module _ (x : Readable t f p s) (d : v < 2 ^ width (componentsOf (view t) p s)) where
+    module _ (x : Readable t f p s) (z : overlapped (sampleOf (view t) p s) ≡ false) (d : v < 2 ^ width (componentsOf (view t) p s)) where
       theirs : ValuePlaced B t f p s v
-      theirs = D .two .placed t f p s v (fitting t f (x .accepted) (x .fits)) (x .there) d
+      theirs = D .two .placed t f p s v (fitting t f (x .accepted) (x .fits)) (x .there) z d
 
       own : ValuePlaced ours t f p s v
-      own = ours-meets .two .placed t f p s v (fitting-ours t f (x .accepted) (x .fits)) (x .there) d
+      own = ours-meets .two .placed t f p s v (fitting-ours t f (x .accepted) (x .fits)) (x .there) z d
 
       -- a frame that is read back is readable, and joins to the value
       joins : (g : List ℕ) → readOf t g p s ≡ answerFor (view t) p s v → (length g ≡ length f) × (join g (componentsOf (view t) p s) ≡ v)
       joins g e =
           let r = readable t g p s (sym (read-number t g p s) ∙ (ap readNumber e ∙ (unfold readNumber in refl))) in
-          (long t g (r .fits) ∙ sym (long t f (x .fits)), raws (sym (ours-meets .two .joined t g p s (fitting-ours t g (r .accepted) (r .fits)) (r .there)) ∙ e))
+          (long t g (r .fits) ∙ sym (long t f (x .fits)), sym (answer-raw (view t) g p s) ∙ ap raw-in (sym (ours-meets .two .joined t g p s (fitting-ours t g (r .accepted) (r .fits)) (r .there)) ∙ e))
 
       placed-some : (B .place t f p s v ≡ placeOf t f p s v) × (B .placed t f p s v ≡ placedOf t f p s v)
       placed-some =
@@ -132,8 +128,8 @@ module _ (B : Calls) (D : Demands B) where
       go : Dec (0 < firstBroken (placeRules t f p s v)) → (B .place t f p s v ≡ placeOf t f p s v) × (B .placed t f p s v ≡ placedOf t f p s v)
       go (yes h) = placed-none t f p s v h
       go (no h) =
-          let e = place-readable t f p s v (some _ h) in
-          placed-some t f p s v (readable t f p s (e .0)) (ltb-true _ _ (e .1))
+          let e = placeable t f p s v (some _ h) in
+          placed-some t f p s v (e .readable) (e .plain) (ltb-true _ _ (e .fitting))
 
   -- ---- comparing
 

@@ -26,7 +26,8 @@ use Rattle.framing.specs.declared.read.Reading.{Reading}
 use Rattle.demands.specs.Calls.{Calls}
 use Rattle.demands.specs.Refusing.{componentsOf}
 use Rattle.demands.specs.Demands.{HasSample, Fitting, Demands}
-use Rattle.demands.proofs.Wall.{words, fuller, words-meet, fuller-meets, sync-listed, pitch-listed, raw-in, value-in, wallTable, says-wall, fitting, there, reads-pitch, reads-sync, pitch-room}
+use Rattle.demands.proofs.Wall.{words, fuller, words-meet, fuller-meets, sync-listed, pitch-listed, wallTable, says-wall, fitting, there, plain, reads-pitch, reads-sync, pitch-room}
+use Rattle.demands.proofs.Told.{raw-in, value-in}
 use Rattle.demands.proofs.Useless.{eighteen}
 
 -- what a bench reads, of every sample of every frame that fits a table it accepts
@@ -106,7 +107,7 @@ module _ (B : Calls) (D : Demands B) where
       let l = there B D 2 1 pitch-listed in
       let beside = subst (λ (c : Content). InWords (componentsOf c 2 1) 1) (sym (says-wall B D)) fifth-beside in
       let unnamed : Named (componentsOf (view (wallTable B)) 2 1) fifth → ⊥ = λ n. fifth-unnamed (subst (λ (c : Content). Named (componentsOf c 2 1) fifth) (says-wall B D) n) in
-      let o = D .two .placed (wallTable B) fuller 2 1 63 h l (pitch-room B D) .other fifth unnamed in
+      let o = D .two .placed (wallTable B) fuller 2 1 63 h l (plain B D .each 2 1 l) (pitch-room B D) .other fifth unnamed in
       omega (arith, fifth-set, o, u (wallTable B) fuller 2 1 63 h l (pitch-room B D) fifth beside unnamed)
 
   -- "A table trusted since "our compiler made it"."

@@ -5,6 +5,8 @@ use native.Mathlib.Decide.{decLt}
 use mathlib.Core.Bool.{Bool, true, false, cond}
 use mathlib.Core.Path.{_≡_, refl, sym, ap}
 use mathlib.Core.List.{List}
+use lib.IntN.{ℤ, pos}
+use Rattle.sample.specs.Joining.{join}
 use Rattle.model.specs.Content.{Content}
 use Rattle.table.specs.Answers.{checkNumber}
 use Rattle.table.specs.declared.check.Checked.{Checked}
@@ -20,13 +22,34 @@ use Rattle.framing.specs.declared.place.Placed.{Placed}
 use Rattle.framing.specs.declared.place.Placed.the-variants as placing
 use Rattle.framing.specs.declared.compare.Compared.{Compared}
 use Rattle.framing.specs.declared.compare.Compared.the-variants as compared
-use Rattle.demands.specs.Demands.{FirstDiffering}
+use Rattle.demands.specs.Refusing.{componentsOf}
+use Rattle.demands.specs.Demands.{answerFor, differsFor, copiesAgree, answerIn, FirstDiffering}
+
+-- the raw value and the value that are answered, whether the copies agree or not
+abbrev pub raw-in : Reading → ℕ
+raw-in (reading.Sample r w v) = r
+raw-in (reading.OverlapDiffers r w v) = r
+raw-in (reading.Refused q) = 0
+
+abbrev pub value-in : Reading → ℤ
+value-in (reading.Sample r w v) = v
+value-in (reading.OverlapDiffers r w v) = v
+value-in (reading.Refused q) = pos 0
+
+pub answer-raw : (c : Content) (f : List ℕ) (p s : ℕ) → raw-in (answerIn c f p s) ≡ join f (componentsOf c p s)
+answer-raw c f p s = go (copiesAgree c f p s)
+  where
+    go : (t : Bool) → raw-in (cond t (answerFor c p s (join f (componentsOf c p s))) (differsFor c p s (join f (componentsOf c p s)))) ≡ join f (componentsOf c p s)
+    go true = refl
+    go false = refl
 
 -- two answers of one number that is not 0 are equal
 pub same-reading : (x y : Reading) → readNumber x ≡ readNumber y → 0 < readNumber y → x ≡ y
 unfolding readNumber
 same-reading (reading.Sample a w v) y e h = absurd (omega arith)
+same-reading (reading.OverlapDiffers a w v) y e h = absurd (omega arith)
 same-reading (reading.Refused q) (reading.Sample a w v) e h = absurd (omega arith)
+same-reading (reading.Refused q) (reading.OverlapDiffers a w v) e h = absurd (omega arith)
 same-reading (reading.Refused q) (reading.Refused r) e h = ap reading.Refused (one-reason q r e)
 
 pub same-placing : (x y : Placed) → placeNumber x ≡ placeNumber y → 0 < placeNumber y → x ≡ y

@@ -3,16 +3,17 @@ use Prim.Native.Nat.{ℕ, _-_, _<_}
 use native.Mathlib.Omega.{arith}
 use mathlib.Core.Bool.{Bool, true, false, cond, _&&_}
 use mathlib.Core.Path.{_≡_, refl}
-use mathlib.Core.List.{List, [], _∷_, _++_}
+use mathlib.Core.List.{List}
 use borrow.Author.Tests.{leb-true, eqb-true}
 use lib.Dec.{eqb, leb}
 use lib.ListN.{length}
-use Rattle.lay.proofs.Tests.{and-0, and-1, rule, none, both}
+use Rattle.lay.proofs.Tests.{and-0, and-1, rule, none, both, not-holds}
 use Rattle.model.specs.Accepts.{accepts}
 use Rattle.model.specs.Content.{parameter, parameters}
 use Rattle.model.specs.Frame.{frameWords, wordsOk, meets}
+use Rattle.model.specs.Samples.{overlapped}
 use Rattle.model.specs.View.{view}
-use Rattle.demands.specs.Refusing.{Rule, rule as ruled, firstBroken, readRules, placeRules, fitsWidth}
+use Rattle.demands.specs.Refusing.{sampleOf, hasParameter, hasSample, notOverlapped, asManyWords, fitsWidth, firstBroken, readRules, placeRules}
 use Rattle.demands.specs.Demands.{HasSample}
 
 pub holds-first : (b : Bool) (m n : ℕ) → 0 < n → cond b m n ≡ 0 → (b ≡ true) × (m ≡ 0)
@@ -48,22 +49,20 @@ pub long : (t f : List ℕ) → meets (view t) f ≡ true → length f ≡ frame
 unfolding meets
 long t f m = eqb-true _ _ (rule _ m 0)
 
--- no rule's number is 0
-abbrev Numbered : List Rule → Type 0
-Numbered [] = Unit {0}
-Numbered (r ∷ rs) = (0 < r .number) × Numbered rs
+-- where none of those of placing is, none of those of reading is, the sample has no overlap and the value fits
+pub record Placeable (t f : List ℕ) (p s v : ℕ) : Type 0 where
+  pub readable : Readable t f p s
+  pub plain : overlapped (sampleOf (view t) p s) ≡ false
+  pub fitting : fitsWidth (view t) p s v ≡ true
 
--- where none of those of placing is, none of those of reading is, and the value fits
-pub place-readable : (t f : List ℕ) (p s v : ℕ) → firstBroken (placeRules t f p s v) ≡ 0 → (firstBroken (readRules t f p s) ≡ 0) × (fitsWidth (view t) p s v ≡ true)
+pub placeable : (t f : List ℕ) (p s v : ℕ) → firstBroken (placeRules t f p s v) ≡ 0 → Placeable t f p s v
 unfolding firstBroken
-place-readable t f p s v e = go (readRules t f p s) (five t f p s) e
-  where
-    five : (t f : List ℕ) (p s : ℕ) → Numbered (readRules t f p s)
-    five t f p s = (omega arith, (omega arith, (omega arith, (omega arith, (omega arith, tt)))))
-
-    go : (rs : List Rule) → Numbered rs → firstBroken (rs ++ (ruled 23 (fitsWidth (view t) p s v) ∷ [])) ≡ 0 → (firstBroken rs ≡ 0) × (fitsWidth (view t) p s v ≡ true)
-    go [] n q = (refl, holds-first (fitsWidth (view t) p s v) 0 23 (omega arith) (q) .0)
-    go (r ∷ rs) n q =
-        let a = holds-first (r .holds) _ (r .number) (n .0) (q) in
-        let b = go rs (n .1) (a .1) in
-        (rw (a .0) (b .0), b .1)
+placeable t f p s v e =
+    let a = holds-first (accepts t) _ 18 (omega arith) e in
+    let b = holds-first (hasParameter (view t) p) _ 21 (omega arith) (a .1) in
+    let d = holds-first (hasSample (view t) p s) _ 22 (omega arith) (b .1) in
+    let o = holds-first (notOverlapped (view t) p s) _ 10 (omega arith) (d .1) in
+    let g = holds-first (asManyWords (view t) f) _ 19 (omega arith) (o .1) in
+    let h = holds-first (wordsOk (view t) f) _ 20 (omega arith) (g .1) in
+    let w = holds-first (fitsWidth (view t) p s v) 0 23 (omega arith) (h .1) in
+    record { readable = readable t f p s (rw (a .0, b .0, d .0, g .0, h .0)); plain = not-holds _ (o .0); fitting = w .0 }

@@ -18,7 +18,7 @@ use Rattle.sample.proofs.Sources.{join-agree}
 use Rattle.sample.specs.Flat.{sum, before, position}
 use Rattle.model.specs.Accepts.{accepts}
 use Rattle.model.specs.Content.{Content, parameter, sample}
-use Rattle.model.specs.Samples.{wordCounts, piece, pieces}
+use Rattle.model.specs.Samples.{wordCounts, whole, piece, wholes, pieces}
 use Rattle.model.specs.View.{view}
 use Rattle.model.specs.Wall.{wall}
 use Rattle.model.specs.Forms.{newest}
@@ -35,11 +35,11 @@ use Rattle.framing.specs.Placing.{placeNumber}
 use Rattle.framing.specs.Comparing.{comparedNumber}
 use Rattle.framing.specs.declared.compare.Compared.the-variants as compared
 use Rattle.demands.specs.Calls.{Calls}
-use Rattle.demands.specs.Refusing.{Rule, rule, componentsOf, firstBroken, placeRules}
+use Rattle.demands.specs.Refusing.{Rule, rule, componentsOf, namedOf, firstBroken, placeRules}
 use Rattle.demands.specs.Demands.{HasSample, answerFor, Fitting, FirstDiffering, Demands}
-use Rattle.demands.proofs.Told.{one-first}
+use Rattle.demands.proofs.Told.{raw-in, answer-raw, one-first}
 use Rattle.demands.proofs.Unbroken.{readable}
-use Rattle.demands.proofs.Wall.{words, others, lower, words-meet, others-meet, lower-meets, sync-listed, pitch-listed, raw-in, wallTable, made-wall, whole, says-wall, fitting, there, reads-pitch, pitch-room}
+use Rattle.demands.proofs.Wall.{words, others, lower, words-meet, others-meet, lower-meets, sync-listed, pitch-listed, wallTable, made-wall, all-read, says-wall, fitting, there, plain, reads-pitch, pitch-room}
 
 -- ---- no bytes are no table: 18 stands first in every call
 
@@ -80,6 +80,10 @@ second-named : Named (componentsOf wall 2 1) second
 unfolding Named sum before position wordCounts piece pieces componentsOf
 second-named = inr (inl (refl, omega arith, omega arith))
 
+second-whole : Named (namedOf wall 2 1) second
+unfolding Named sum before position wordCounts whole wholes namedOf
+second-whole = inr (inl (refl, omega arith, omega arith))
+
 second-differs : bitIn words second ≡ bitIn lower second → ⊥
 unfolding bitAt
 second-differs e = omega (arith, e)
@@ -112,8 +116,8 @@ answer-zero c p s v = refl
 abbrev lowest : Place
 lowest = record { word = 0; bit = 0 }
 
-lowest-named : Named (componentsOf wall 1 1) lowest
-unfolding Named sum before position wordCounts piece pieces componentsOf
+lowest-named : Named (namedOf wall 1 1) lowest
+unfolding Named sum before position wordCounts whole wholes namedOf
 lowest-named = inl (refl, omega arith, omega arith)
 
 lowest-differs : bitIn words lowest ≡ bitIn others lowest → ⊥
@@ -129,18 +133,18 @@ module _ (B : Calls) (D : Demands B) where
 
   -- refusing all tables
   pub some-table-passes : ((t : List ℕ) → B .check t ≡ NotTable) → ⊥
-  some-table-passes u = let e = sym (u (wallTable B)) ∙ whole B D .passes in let z : _≡_ {A = ℕ} 0 1 = cc in omega arith
+  some-table-passes u = let e = sym (u (wallTable B)) ∙ all-read B D .passes in let z : _≡_ {A = ℕ} 0 1 = cc in omega arith
 
   -- the same sample for every frame: by "exactly when"
   pub frames-told-apart : ((t f g : List ℕ) (p s : ℕ) → B .read t f p s ≡ B .read t g p s) → ⊥
   frames-told-apart u =
-      let x = D .three .exactly (wallTable B) words others (fitting B D words words-meet) (fitting B D others others-meet) .0 (record { each = λ p s l. u (wallTable B) words others p s }) in
-      lowest-differs (x .each 1 1 (there B D 1 1 sync-listed) lowest (subst (λ (c : Content). Named (componentsOf c 1 1) lowest) (sym (says-wall B D)) lowest-named))
+      let x = D .three .exactly (wallTable B) words others (fitting B D words words-meet) (fitting B D others others-meet) (plain B D) .0 (record { each = λ p s l. u (wallTable B) words others p s }) in
+      lowest-differs (x .each 1 1 (there B D 1 1 sync-listed) lowest (subst (λ (c : Content). Named (namedOf c 1 1) lowest) (sym (says-wall B D)) lowest-named))
 
   -- a placing that writes nothing
   pub something-placed : ((t f : List ℕ) (p s v : ℕ) → B .placed t f p s v ≡ f) → ⊥
   something-placed u =
-      let b = D .two .placed (wallTable B) words 2 1 63 (fitting B D words words-meet) (there B D 2 1 pitch-listed) (pitch-room B D) .back in
+      let b = D .two .placed (wallTable B) words 2 1 63 (fitting B D words words-meet) (there B D 2 1 pitch-listed) (plain B D .each 2 1 (there B D 2 1 pitch-listed)) (pitch-room B D) .back in
       omega (arith, ap raw-in (sym (reads-pitch B D) ∙ (sym (ap (λ (f : List ℕ). B .read (wallTable B) f 2 1) (u (wallTable B) words 2 1 63)) ∙ b)))
 
   -- joining only the first component: the raw value is its part; and, by "exactly when", a read that knows no more
@@ -152,8 +156,8 @@ module _ (B : Calls) (D : Demands B) where
   pub all-components-known : ((t f g : List ℕ) (p s : ℕ) → firstPart f (componentsOf (view t) p s) ≡ firstPart g (componentsOf (view t) p s) → B .read t f p s ≡ B .read t g p s) → ⊥
   all-components-known u =
       let same : (p s : ℕ) → firstPart words (componentsOf (view (wallTable B)) p s) ≡ firstPart lower (componentsOf (view (wallTable B)) p s) = λ p s. subst (λ (c : Content). firstPart words (componentsOf c p s) ≡ firstPart lower (componentsOf c p s)) (sym (says-wall B D)) (first-same p s) in
-      let x = D .three .exactly (wallTable B) words lower (fitting B D words words-meet) (fitting B D lower lower-meets) .0 (record { each = λ p s l. u (wallTable B) words lower p s (same p s) }) in
-      second-differs (x .each 2 1 (there B D 2 1 pitch-listed) second (subst (λ (c : Content). Named (componentsOf c 2 1) second) (sym (says-wall B D)) second-named))
+      let x = D .three .exactly (wallTable B) words lower (fitting B D words words-meet) (fitting B D lower lower-meets) (plain B D) .0 (record { each = λ p s l. u (wallTable B) words lower p s (same p s) }) in
+      second-differs (x .each 2 1 (there B D 2 1 pitch-listed) second (subst (λ (c : Content). Named (namedOf c 2 1) second) (sym (says-wall B D)) second-whole))
 
   -- placing into the first component only: the bits of the others stay
   pub all-components-placed : ((t f : List ℕ) (p s v : ℕ) → Fitting B t f → HasSample (view t) p s
@@ -163,10 +167,10 @@ module _ (B : Calls) (D : Demands B) where
       let g = B .placed t lower 2 1 63 in
       let h = fitting B D lower lower-meets in
       let l = there B D 2 1 pitch-listed in
-      let x = D .two .placed t lower 2 1 63 h l (pitch-room B D) in
+      let x = D .two .placed t lower 2 1 63 h l (plain B D .each 2 1 l) (pitch-room B D) in
       let r = readable t g 2 1 (sym (D .one .reads t g 2 1) ∙ (ap readNumber (x .back) ∙ answer-zero (view t) 2 1 63)) in
       let j = D .two .joined t g 2 1 (record { passes = h .passes; fits = r .fits }) l in
-      let e : join g (componentsOf (view t) 2 1) ≡ 63 = ap raw-in (sym j ∙ x .back) in
+      let e : join g (componentsOf (view t) 2 1) ≡ 63 = sym (answer-raw (view t) g 2 1) ∙ ap raw-in (sym j ∙ x .back) in
       let k : join filled (componentsOf (view t) 2 1) ≡ 63 = ap (λ (c : Content). join filled (componentsOf c 2 1)) (says-wall B D) ∙ filled-joins in
       let n = subst (λ (c : Content). Named (componentsOf c 2 1) second) (sym (says-wall B D)) second-named in
       let o = subst (λ (c : Content). Named (others-of (componentsOf c 2 1)) second) (sym (says-wall B D)) second-other in

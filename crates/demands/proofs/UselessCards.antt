@@ -16,15 +16,15 @@ use Rattle.lay.specs.Bytes.{same}
 use Rattle.lay.proofs.Below.{any-made}
 use Rattle.lay.proofs.Tests.{and-both, differ}
 use Rattle.ratio.specs.Ratio.{gcdIn, gcd, lowest}
-use Rattle.sample.specs.Joining.{partOf, join, width}
+use Rattle.sample.specs.Joining.{partOf, width}
 use Rattle.sample.specs.Clash.{clash, clashAny, twice}
 use Rattle.sample.specs.Flat.{sum, before, position}
 use Rattle.model.specs.Margin.{marginBits}
 use Rattle.model.specs.Accepts.{accepts}
 use Rattle.model.specs.Content.{Content, subframe, subframes, parameters, allSamples, firstSample, firstComponent}
 use Rattle.model.specs.Frame.{frameWords}
-use Rattle.model.specs.Samples.{wordCounts, piece, pieces, widthOf}
-use Rattle.model.specs.Rules.{secondsOk, marginOk, subframeOk, componentOk, sampleOk, byteOk, textOk, parameterOk}
+use Rattle.model.specs.Samples.{wordCounts, whole, piece, wholes, pieces, widthOf, placeIn, holdsAt, holds}
+use Rattle.model.specs.Rules.{secondsOk, marginOk, subframeOk, componentOk, nextBits, overlapOk, sampleOk, byteOk, textOk, parameterOk}
 use Rattle.model.specs.Identifiers.{namedApart, newlyNamed, identifierOk, identifiedApart, identifies, taken, identifiersOk}
 use Rattle.model.specs.View.{view}
 use Rattle.model.specs.Lawful.{lawful}
@@ -34,7 +34,6 @@ use Rattle.model.proofs.Rows.{not-first}
 use Rattle.model.proofs.Statements.{view-new, form-new, new-accepted}
 use Rattle.model.proofs.TwoSubframes.{two, two-lawful}
 use Rattle.table.specs.declared.check.Checked.the-variants.{Table}
-use Rattle.framing.specs.Reading.{rawOf}
 use Rattle.framing.specs.Comparing.{differsAt, differsIn, comparedIn, comparedNumber}
 use Rattle.stream.specs.Stream.{streamBit, bitsFrom}
 use Rattle.carding.specs.Layout.{subframeBits, bitsBefore, frameBits, wordsBegin, wordBegins, wordIn, frameAt}
@@ -58,7 +57,7 @@ abbrev shifted : List ℕ
 shifted = 112 ∷ 36 ∷ 5 ∷ 0 ∷ 0 ∷ 6 ∷ 0 ∷ []
 
 tight-lawful : lawful sheetLimits tight ≡ true
-unfolding every same gcdIn gcd lowest width clash clashAny twice sum before position allSamples firstSample firstComponent wordCounts piece pieces widthOf secondsOk marginOk subframeOk componentOk sampleOk byteOk textOk parameterOk namedApart newlyNamed identifierOk identifiedApart identifies taken identifiersOk lawful
+unfolding every same gcdIn gcd lowest width clash clashAny twice sum before position allSamples firstSample firstComponent wordCounts whole piece wholes pieces widthOf secondsOk marginOk subframeOk componentOk nextBits overlapOk sampleOk byteOk textOk parameterOk namedApart newlyNamed identifierOk identifiedApart identifies taken identifiersOk lawful
 tight-lawful = refl
 
 tight-known : marginsKnown tight ≡ true
@@ -70,7 +69,7 @@ unfolding wholeAt bitsBefore subframeBits
 card-whole = refl
 
 card-agrees : agreesAt tight card 0 ≡ true
-unfolding agreesAt comparedNumber comparedIn differsIn differsAt rawOf join partOf pieces piece wordCounts position before sum frameAt wordIn wordBegins wordsBegin bitsBefore subframeBits bitsFrom streamBit bitAt field
+unfolding agreesAt comparedNumber comparedIn differsIn differsAt holds holdsAt placeIn partOf whole piece wordCounts position before sum frameAt wordIn wordBegins wordsBegin bitsBefore subframeBits bitsFrom streamBit bitAt field
 card-agrees = refl
 
 shifted-whole : wholeAt tight shifted 4 ≡ true
@@ -78,12 +77,12 @@ unfolding wholeAt bitsBefore subframeBits
 shifted-whole = refl
 
 shifted-agrees : agreesAt tight shifted 4 ≡ true
-unfolding agreesAt comparedNumber comparedIn differsIn differsAt rawOf join partOf pieces piece wordCounts position before sum frameAt wordIn wordBegins wordsBegin bitsBefore subframeBits bitsFrom streamBit bitAt field
+unfolding agreesAt comparedNumber comparedIn differsIn differsAt holds holdsAt placeIn partOf whole piece wordCounts position before sum frameAt wordIn wordBegins wordsBegin bitsBefore subframeBits bitsFrom streamBit bitAt field
 shifted-agrees = refl
 
 -- at its first bit the shifted one has no frame
 shifted-differs : agreesAt tight shifted 0 ≡ false
-unfolding agreesAt comparedNumber comparedIn differsIn differsAt rawOf join partOf pieces piece wordCounts position before sum frameAt wordIn wordBegins wordsBegin bitsBefore subframeBits bitsFrom streamBit bitAt field
+unfolding agreesAt comparedNumber comparedIn differsIn differsAt holds holdsAt placeIn partOf whole piece wordCounts position before sum frameAt wordIn wordBegins wordsBegin bitsBefore subframeBits bitsFrom streamBit bitAt field
 shifted-differs = refl
 
 -- bit 2 of the last word, 6, is the card's last bit that is set
@@ -120,7 +119,7 @@ first-word = refl
 -- ---- the wall with eight trailing bits, and a card that ends before them
 
 trailed-lawful : lawful sheetLimits trailed ≡ true
-unfolding every same gcdIn gcd lowest width clash clashAny twice sum before position allSamples firstSample firstComponent wordCounts piece pieces widthOf secondsOk marginOk subframeOk componentOk sampleOk byteOk textOk parameterOk namedApart newlyNamed identifierOk identifiedApart identifies taken identifiersOk lawful
+unfolding every same gcdIn gcd lowest width clash clashAny twice sum before position allSamples firstSample firstComponent wordCounts whole piece wholes pieces widthOf secondsOk marginOk subframeOk componentOk nextBits overlapOk sampleOk byteOk textOk parameterOk namedApart newlyNamed identifierOk identifiedApart identifies taken identifiersOk lawful
 trailed-lawful = refl
 
 trailed-known : marginsKnown trailed ≡ true
@@ -128,7 +127,7 @@ unfolding marginsKnown
 trailed-known = refl
 
 trailed-agrees : agreesAt trailed card 0 ≡ true
-unfolding agreesAt comparedNumber comparedIn differsIn differsAt rawOf join partOf pieces piece wordCounts position before sum frameAt wordIn wordBegins wordsBegin bitsBefore subframeBits bitsFrom streamBit bitAt field
+unfolding agreesAt comparedNumber comparedIn differsIn differsAt holds holdsAt placeIn partOf whole piece wordCounts position before sum frameAt wordIn wordBegins wordsBegin bitsBefore subframeBits bitsFrom streamBit bitAt field
 trailed-agrees = refl
 
 trailed-bits : frameBits trailed ≡ 56
@@ -153,11 +152,11 @@ unfolding wholeAt bitsBefore subframeBits
 half-whole = refl
 
 half-first : differsIn two (frameAt two half 0) 1 ≡ false
-unfolding differsIn differsAt rawOf join partOf pieces piece wordCounts position before sum frameAt wordIn wordBegins wordsBegin bitsBefore subframeBits bitsFrom streamBit bitAt field
+unfolding differsIn differsAt holds holdsAt placeIn partOf whole piece wordCounts position before sum frameAt wordIn wordBegins wordsBegin bitsBefore subframeBits bitsFrom streamBit bitAt field
 half-first = refl
 
 half-nowhere : any 49 (soughtAt two half 0) ≡ false
-unfolding wholeAt agreesAt comparedNumber comparedIn differsIn differsAt rawOf join partOf pieces piece wordCounts position before sum frameAt wordIn wordBegins wordsBegin bitsBefore subframeBits bitsFrom streamBit bitAt field
+unfolding wholeAt agreesAt comparedNumber comparedIn differsIn differsAt holds holdsAt placeIn partOf whole piece wordCounts position before sum frameAt wordIn wordBegins wordsBegin bitsBefore subframeBits bitsFrom streamBit bitAt field
 half-nowhere = refl
 
 -- ---- what a bench that meets the demands answers by the table of lawful Content

@@ -1,6 +1,6 @@
 -- The three demands, of any bench.
 use Prim.Native.Nat.{ℕ, _+_, _-_, _^_, _≤_, _<_}
-use mathlib.Core.Bool.{true, false, cond}
+use mathlib.Core.Bool.{Bool, true, false, cond}
 use mathlib.Core.Path.{_≡_}
 use mathlib.Core.List.{List, []}
 use mathlib.Core.Logic.{_⊎_, _↔_}
@@ -15,6 +15,7 @@ use Rattle.sample.specs.Source.{bitIn}
 use Rattle.model.specs.Content.{Content, parameters, parameter, subframes}
 use Rattle.model.specs.Forms.{newest, formIn}
 use Rattle.model.specs.Frame.{frameWords, meets}
+use Rattle.model.specs.Samples.{overlapped, holds}
 use Rattle.model.specs.Stored.{textPart, textStartIn}
 use Rattle.model.specs.View.{view}
 use Rattle.model.specs.Write.{write}
@@ -30,7 +31,7 @@ use Rattle.framing.specs.Reading.{readNumber}
 use Rattle.framing.specs.Placing.{placeNumber}
 use Rattle.framing.specs.Comparing.{differsIn, comparedNumber}
 use Rattle.framing.specs.declared.read.Reading.{Reading}
-use Rattle.framing.specs.declared.read.Reading.the-variants.{Sample}
+use Rattle.framing.specs.declared.read.Reading.the-variants.{Sample, OverlapDiffers}
 use Rattle.framing.specs.declared.place.Placed.the-variants.{Done}
 use Rattle.framing.specs.declared.compare.Compared.the-variants.{Passes, Differs}
 use Rattle.carding.specs.Layout.{frameBits, Carries}
@@ -39,7 +40,7 @@ use Rattle.carding.specs.Answer.{cardedNumber}
 use Rattle.carding.specs.declared.carded.Carded.{Carded}
 use Rattle.carding.specs.declared.carded.Carded.the-variants.{Found}
 use Rattle.demands.specs.Calls.{Calls}
-use Rattle.demands.specs.Refusing.{componentsOf, firstBroken, checkRules, readRules, placeRules, compareRules, nameRules, mnemonicRules, cardRules, bitsRules}
+use Rattle.demands.specs.Refusing.{sampleOf, componentsOf, namedOf, firstBroken, checkRules, readRules, placeRules, compareRules, nameRules, mnemonicRules, cardRules, bitsRules}
 
 -- ---- words that the demands use
 
@@ -54,9 +55,23 @@ pub record HasSample (c : Content) (p s : ℕ) : Type 0 where
 unfoldable pub meaning : Content → ℕ → ℕ → ℕ → ℤ
 meaning c p s raw = cond (parameter c (p - 1) .signed) (signed (width (componentsOf c p s)) raw) (pos raw)
 
--- what a read of it answers for a raw value
+-- what a read of it answers for a raw value, where its copies agree, and where they differ: "reading is never refused"
 abbrev pub answerFor : Content → ℕ → ℕ → ℕ → Reading
 answerFor c p s raw = Sample raw (width (componentsOf c p s)) (meaning c p s raw)
+
+abbrev pub differsFor : Content → ℕ → ℕ → ℕ → Reading
+differsFor c p s raw = OverlapDiffers raw (width (componentsOf c p s)) (meaning c p s raw)
+
+-- the copies agree: every component is its bits of what they join to
+abbrev pub copiesAgree : Content → List ℕ → ℕ → ℕ → Bool
+copiesAgree c f p s = holds (c .subframes) f (sampleOf c p s) (join f (componentsOf c p s))
+
+-- and so what a read of it answers in the frame f
+abbrev pub answerIn : Content → List ℕ → ℕ → ℕ → Reading
+answerIn c f p s =
+    cond (copiesAgree c f p s)
+    (answerFor c p s (join f (componentsOf c p s)))
+    (differsFor c p s (join f (componentsOf c p s)))
 
 -- "a table that the check accepts, no matter who made it, and frames that fit it"
 pub record Fitting (B : Calls) (t f : List ℕ) : Type 0 where
@@ -163,9 +178,9 @@ pub record Two (B : Calls) : Type 0 where
   pub sheet : SheetTaken B
   pub named : NameAnswered B
   pub joined : (t f : List ℕ) (p s : ℕ) → Fitting B t f → HasSample (view t) p s
-      → B .read t f p s ≡ answerFor (view t) p s (join f (componentsOf (view t) p s))
-  pub placed : (t f : List ℕ) (p s v : ℕ) → Fitting B t f → HasSample (view t) p s → v < 2 ^ width (componentsOf (view t) p s)
-      → ValuePlaced B t f p s v
+      → B .read t f p s ≡ answerIn (view t) f p s
+  pub placed : (t f : List ℕ) (p s v : ℕ) → Fitting B t f → HasSample (view t) p s → overlapped (sampleOf (view t) p s) ≡ false
+      → v < 2 ^ width (componentsOf (view t) p s) → ValuePlaced B t f p s v
   pub found : (t y : List ℕ) (from : ℕ) (w : List ℕ) → firstBroken (cardRules t y from w) ≡ 0
       → FrameHanded (view t) y from w (B .cardFrom t y from w) (B .handedFrom t y from w)
   pub first-of-all : (t y w : List ℕ) → FromTheFirst B t y w
@@ -174,21 +189,27 @@ pub record Two (B : Calls) : Type 0 where
 
 -- ---- 3. "Every table made from an accepted sheet passes the table check. For a table that the check accepts, no matter who
 -- made it, and frames that fit it, every listed sample is answered, none refused, its raw value below two to the width; two
--- such frames give equal answers for all samples exactly when they agree at every bit that some component names."
+-- such frames give equal answers for all samples exactly when they agree at every bit that some component names." 02: "the bound
+-- holds over the width that this joining gives; the "exactly when" of demand 3 is claimed for tables without any" overlap
 
 -- what is answered, and below what
 pub record Answered (B : Calls) (t f : List ℕ) (p s : ℕ) : Type 0 where
   pub raw : ℕ
   pub wide : ℕ
   pub value : ℤ
-  pub is : B .read t f p s ≡ Sample raw wide value
+  pub agree : Bool
+  pub is : B .read t f p s ≡ cond agree (Sample raw wide value) (OverlapDiffers raw wide value)
   pub below : raw < 2 ^ wide
 
 pub record SameAnswers (B : Calls) (t f g : List ℕ) : Type 0 where
   pub each : (p s : ℕ) → HasSample (view t) p s → B .read t f p s ≡ B .read t g p s
 
 pub record SameBits (t f g : List ℕ) : Type 0 where
-  pub each : (p s : ℕ) → HasSample (view t) p s → (q : Place) → Named (componentsOf (view t) p s) q → bitIn f q ≡ bitIn g q
+  pub each : (p s : ℕ) → HasSample (view t) p s → (q : Place) → Named (namedOf (view t) p s) q → bitIn f q ≡ bitIn g q
+
+-- no sample that the table lists overlaps
+pub record NoOverlap (c : Content) : Type 0 where
+  pub each : (p s : ℕ) → HasSample c p s → overlapped (sampleOf c p s) ≡ false
 
 -- 02: "3 is read over the frame handed out": it fits, so all that is said of frames is said of it, and comparing it passes
 pub record FrameFits (B : Calls) (t f : List ℕ) : Type 0 where
@@ -198,7 +219,9 @@ pub record FrameFits (B : Calls) (t f : List ℕ) : Type 0 where
 pub record Three (B : Calls) : Type 0 where
   pub passes : (s l : List ℕ) (n : ℕ) → B .make s l ≡ made.Length n → B .check (take n (B .made s l)) ≡ Table
   pub answers : (t f : List ℕ) (p s : ℕ) → Fitting B t f → HasSample (view t) p s → Answered B t f p s
-  pub exactly : (t f g : List ℕ) → Fitting B t f → Fitting B t g → SameAnswers B t f g ↔ SameBits t f g
+  pub exactly : (t f g : List ℕ) → Fitting B t f → Fitting B t g → NoOverlap (view t) → SameAnswers B t f g ↔ SameBits t f g
+  -- and of every table one half of it
+  pub alike : (t f g : List ℕ) → Fitting B t f → Fitting B t g → SameBits t f g → SameAnswers B t f g
   pub handed-fits : (t y : List ℕ) (from : ℕ) (w : List ℕ) (p n : ℕ) → B .cardFrom t y from w ≡ Found p n
       → FrameFits B t (take n (B .handedFrom t y from w))
 

@@ -1,6 +1,6 @@
 -- 01's and 02's refusals, call by call: what must hold, in their order, each with the number that is given where it does not.
 use mathlib.Core.Bool.{Bool, _&&_, not, cond}
-use mathlib.Core.List.{List, [], _∷_, _++_}
+use mathlib.Core.List.{List, [], _∷_}
 use Prim.Native.Nat.{ℕ, _+_, _-_, _*_, _^_}
 use lib.Dec.{eqb, leb, ltb}
 use lib.ListN.{length}
@@ -8,8 +8,8 @@ use Rattle.lay.specs.Below.{any}
 use Rattle.lay.specs.Bytes.{same}
 use Rattle.sample.specs.declared.component.Component.{Component}
 use Rattle.sample.specs.Joining.{width}
-use Rattle.model.specs.Content.{Content, parameter, parameters, sample, subframes}
-use Rattle.model.specs.Samples.{pieces}
+use Rattle.model.specs.Content.{Content, Sample, parameter, parameters, sample, subframes}
+use Rattle.model.specs.Samples.{wholes, pieces, overlapped}
 use Rattle.model.specs.Frame.{frameWords, wordsOk}
 use Rattle.model.specs.Forms.{formIn}
 use Rattle.model.specs.Accepts.{accepts}
@@ -34,9 +34,16 @@ firstBroken (r ∷ rs) = cond (r .holds) (firstBroken rs) (r .number)
 
 -- ---- what must hold
 
--- the components of sample s of parameter p, both counted from 1: lowest first, where they stand in a frame
+-- sample s of parameter p, both counted from 1
+abbrev pub sampleOf : Content → ℕ → ℕ → Sample
+sampleOf c p s = sample (parameter c (p - 1)) (s - 1)
+
+-- its components, lowest first, where they stand in a frame: the bits that each gives, and all its bits
 unfoldable pub componentsOf : Content → ℕ → ℕ → List Component
-componentsOf c p s = pieces (c .subframes) (sample (parameter c (p - 1)) (s - 1))
+componentsOf c p s = pieces (c .subframes) (sampleOf c p s)
+
+unfoldable pub namedOf : Content → ℕ → ℕ → List Component
+namedOf c p s = wholes (c .subframes) (sampleOf c p s)
 
 -- 21, "no such parameter", and 22, "no such sample"
 abbrev pub hasParameter : Content → ℕ → Bool
@@ -56,6 +63,10 @@ asManyWords c f = eqb (length f) (frameWords c)
 -- 23, "value at or above two to the width"
 abbrev pub fitsWidth : Content → ℕ → ℕ → ℕ → Bool
 fitsWidth c p s v = ltb v (2 ^ width (componentsOf c p s))
+
+-- 10, "placing into an overlapped sample"
+abbrev pub notOverlapped : Content → ℕ → ℕ → Bool
+notOverlapped c p s = not (overlapped (sampleOf c p s))
 
 -- 24, "an identifier differs": in some subframe
 abbrev pub identifiersAgree : Content → List ℕ → Bool
@@ -97,9 +108,17 @@ readRules t f p s =
     ∷ rule 20 (wordsOk (view t) f)
     ∷ []
 
--- "Placing: the same, then 23."
+-- "Placing: the same, then 23."; 02: 10, "after 22"
 abbrev pub placeRules : List ℕ → List ℕ → ℕ → ℕ → ℕ → List Rule
-placeRules t f p s v = readRules t f p s ++ (rule 23 (fitsWidth (view t) p s v) ∷ [])
+placeRules t f p s v =
+    rule 18 (accepts t)
+    ∷ rule 21 (hasParameter (view t) p)
+    ∷ rule 22 (hasSample (view t) p s)
+    ∷ rule 10 (notOverlapped (view t) p s)
+    ∷ rule 19 (asManyWords (view t) f)
+    ∷ rule 20 (wordsOk (view t) f)
+    ∷ rule 23 (fitsWidth (view t) p s v)
+    ∷ []
 
 -- "Comparing: 18, 19, 20, 24"
 abbrev pub compareRules : List ℕ → List ℕ → List Rule

@@ -46,10 +46,12 @@ noNameOut r = record { number = reasonNumber r; start = 0; length = 0 }
 
 -- ---- a frame
 
--- kind 1 is a sample; where refused, all is 0 but the number
+-- kind 1 is a sample, 2 one whose copies differ; where refused, all is 0 but the number
 unfoldable pub sampleOut : Reading → OrbSample
 sampleOut (reading.Sample raw width value) =
     record { number = readNumber (reading.Sample raw width value); kind = 1; width = width; raw = raw; value = value }
+sampleOut (reading.OverlapDiffers raw width value) =
+    record { number = readNumber (reading.OverlapDiffers raw width value); kind = 2; width = width; raw = raw; value = value }
 sampleOut (reading.Refused w) =
     record { number = readNumber (reading.Refused w); kind = 0; width = 0; raw = 0; value = pos 0 }
 

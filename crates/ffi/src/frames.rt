@@ -12,7 +12,7 @@ ghost use Rattle.ffi.specs.Structs.{sampleOut, comparedOut};
 ghost use Rattle.ffi.specs.Sizes.{SubframeFits};
 ghost use Rattle.ffi.specs.Promises.{ReadsOut, PlacesOut, ComparesOut};
 
-// The kind is 1 for a sample, and all is 0 but the number where the call is refused.
+// The kind is 1 for a sample, 2 for one whose copies differ, and all is 0 but the number where the call is refused.
 #[repr(C)]
 pub struct OrbSample {
     pub number: u32,
@@ -37,6 +37,13 @@ fn sample_out(reading: Reading) -> OrbSample
         Reading::Sample { raw, width, value } => OrbSample {
             number,
             kind: 1,
+            width,
+            raw,
+            value,
+        },
+        Reading::OverlapDiffers { raw, width, value } => OrbSample {
+            number,
+            kind: 2,
             width,
             raw,
             value,

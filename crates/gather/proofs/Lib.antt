@@ -3,6 +3,7 @@ pub mod FieldBytes
 pub mod Amounts
 pub mod Spreads
 pub mod Spots
+pub mod Joinings
 pub mod Counts
 pub mod Sound
 pub mod Tellings

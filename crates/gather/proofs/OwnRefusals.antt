@@ -1,5 +1,5 @@
 -- The refusals that an ended line itself can have: the numbers 2 to 15, but 4. Assumes nothing.
-use Prim.Native.Nat.{ℕ}
+use Prim.Native.Nat.{ℕ, _+_}
 use mathlib.Core.Path.{_≡_, refl}
 use mathlib.Core.Bool.{Bool, true, false, cond, not, _&&_, _||_}
 use mathlib.Core.List.{List, [], _∷_, _++_}
@@ -18,22 +18,22 @@ use Rattle.spell.specs.Digits.{digitsUpTo, number}
 use Rattle.spell.specs.declared.answers.Number.the-variants.{Value}
 use Rattle.spell.specs.Texts.{version, textJudged, versionJudged, emptyJudged}
 use Rattle.spell.specs.Truths.{saysTrue, saysFalse, truthJudged, truthOrEmptyJudged}
-use Rattle.spell.specs.Integers.{mostOfSix, highestLabel, integerJudged, integerOf, declaredJudged, overlapJudged, marginOf, labelJudged}
+use Rattle.spell.specs.Integers.{mostOfSix, highestLabel, integerJudged, integerOf, declaredJudged, marginOf, labelJudged}
 use Rattle.spell.specs.Decimals.{isDecimal, decimalJudged, delayJudged}
 use Rattle.spell.specs.BitRanges.{highestSourceBit, isBits, lowBit, highBit, bitsJudged, componentBitsJudged, sourceBitsJudged}
 use Rattle.spell.specs.Durations.{slash, isSeconds, fractionOf, badFraction, topOf, secondsJudged}
 use Rattle.lines.specs.Line.{longestLine, allClean, rawHits}
 use Rattle.lines.specs.Order.{hits}
 use Rattle.sample.specs.Clash.{twice}
-use Rattle.sample.specs.Joining.{width}
 use Rattle.lineforms.specs.LineFields.{rangeJudged}
 use Rattle.lineforms.proofs.Judging.{integer-same}
 use Rattle.lineforms.specs.declared.due.Form.{Form}
 use Rattle.lineforms.specs.declared.due.Form.the-variants.{Stray, Superframe, HeaderWord, HeaderLine, RecordWord, RecordLine, NoneWord, ParameterWord, NameLine, OpeningComponent, ComponentLine, TimeLine, SamplesEnd, SignedLine, RangeLine, SourceLine, LabelLine, SourceEnd, ParameterEnd}
 use Rattle.model.specs.Content.{Sample, Component}
 use Rattle.model.specs.Forms.{sheetLimits}
+use Rattle.model.specs.Rules.{bitCount}
 use Rattle.gather.specs.Book.{Book, namedOf, samplesSoFar, componentsSoFar}
-use Rattle.gather.specs.Tests.{roomForParameter, roomForSample, roomForComponent, spots, joinedTest, widthTest, apartFrom, testsOf}
+use Rattle.gather.specs.Tests.{roomForParameter, roomForSample, roomForComponent, spots, given, lastOverlap, joinedTest, unlikeFirst, widthTest, apartFrom, testsOf}
 use Rattle.gather.proofs.Stages.{Stage, formIn, testsIn}
 
 -- "2, .. 15", but not 4, which an ended line cannot have
@@ -98,10 +98,6 @@ integer-fair n a b f =
 declared-fair : (n : ℕ) (f : List ℕ) → Fair (declaredJudged n f)
 unfolding declaredJudged
 declared-fair n f = fair-first _ (integer-fair 6 1 mostOfSix f, (fair-when (ltb n (number 10 f)) BeyondDeclared refl, tt))
-
-overlap-fair : (f : List ℕ) → Fair (overlapJudged f)
-unfolding overlapJudged
-overlap-fair f = fair-first _ (integer-fair 6 0 mostOfSix f, (fair-when (not (eqb (number 10 f) 0)) NotCarried refl, tt))
 
 margin-fair : (n blank : ℕ) (f : List ℕ) → Fair (numberJudged (marginOf n blank f))
 unfolding marginOf
@@ -192,14 +188,18 @@ unfolding roomForComponent
 component-fair K =
     fair-when (leb (sheetLimits .componentsEach) (length (K .parts)) || leb (sheetLimits .components) (componentsSoFar K)) TooMany refl
 
-joined-fair : (cs : List Component) → Fair (joinedTest cs)
+joined-fair : (cs : List Component) (c : Component) → Fair (joinedTest cs c)
 unfolding joinedTest
-joined-fair cs = fair-when (twice (spots cs) || ltb (sheetLimits .width) (width (spots cs))) BadSample refl
+joined-fair cs c =
+    fair-when
+    (twice (spots (cs ++ (c ∷ [])))
+    || (ltb (sheetLimits .width) (given cs + bitCount c) || (leb (bitCount c) (c .overlap) || ltb (bitCount c) (lastOverlap cs))))
+    BadSample
+    refl
 
 width-fair : (ss : List Sample) (cs : List Component) → Fair (widthTest ss cs)
 unfolding widthTest
-width-fair [] cs = tt
-width-fair (s ∷ ss) cs = fair-when (not (eqb (width (spots cs)) (width (spots (s .components))))) BadSample refl
+width-fair ss cs = fair-when (not (eqb (lastOverlap cs) 0) || (ltb (given cs) 1 || unlikeFirst ss cs)) BadSample refl
 
 tests-fair : (f : Form) (K : Book) (l : List ℕ) → AllFair (hits (testsOf f K l))
 tests-fair Stray K l = (refl, (tt, (tt, (tt, tt))))
@@ -270,9 +270,9 @@ tests-fair NameLine K l = (
   ),
 )
 tests-fair OpeningComponent K l =
-    (tt, (sample-fair K, (declared-fair _ _, (declared-fair _ _, (overlap-fair _, (component-bits-fair _ _, (joined-fair _, (tt, tt))))))))
+    (tt, (sample-fair K, (declared-fair _ _, (declared-fair _ _, (integer-fair _ _ _ _, (component-bits-fair _ _, (joined-fair _ _, (tt, tt))))))))
 tests-fair ComponentLine K l =
-    (tt, (component-fair K, (declared-fair _ _, (declared-fair _ _, (overlap-fair _, (component-bits-fair _ _, (joined-fair _, (tt, tt))))))))
+    (tt, (component-fair K, (declared-fair _ _, (declared-fair _ _, (integer-fair _ _ _ _, (component-bits-fair _ _, (joined-fair _ _, (tt, tt))))))))
 tests-fair TimeLine K l = (tt, (tt, (decimal-fair _ _, (width-fair _ _, (tt, tt)))))
 tests-fair SamplesEnd K l = (tt, (tt, (tt, (tt, tt))))
 tests-fair SignedLine K l =

@@ -5,7 +5,6 @@ use mathlib.Core.List.{List, []}
 use Prim.Native.Nat.{ℕ, _≤_, _<_}
 use lib.ListN.{length, getD}
 use Rattle.sample.specs.Clash.{twice}
-use Rattle.sample.specs.Joining.{width}
 use Rattle.lineforms.specs.declared.due.Due.{Due}
 use Rattle.lineforms.specs.declared.due.Due.the-variants as due
 use Rattle.lineforms.specs.declared.due.Form.{Form}
@@ -15,8 +14,9 @@ use Rattle.model.specs.Forms.{sheetLimits}
 use Rattle.model.specs.Samples.{widthOf}
 use Rattle.model.specs.Meaning.{SubframeLaw, ComponentLaw, SampleLaw, TextLaw, ParameterLaw, NamedApart}
 use Rattle.gather.specs.Book.{Book, spread, samplesOf, allComponentsOf, samplesSoFar, componentsSoFar}
-use Rattle.gather.specs.Tests.{spots}
+use Rattle.gather.specs.Tests.{spots, given}
 use Rattle.gather.proofs.Rows.{Each}
+use Rattle.gather.proofs.Joinings.{Followed}
 
 -- the subframes that the record pairs stand for
 abbrev pub subsOf : Book → List Subframe
@@ -97,8 +97,9 @@ pub record Parted (K : Book) : Type 0 where
   pub some : 1 ≤ length (K .parts)
   pub few : length (K .parts) ≤ sheetLimits .componentsEach
   pub each : Each (ComponentLaw (subsOf K)) noComponent (K .parts)
+  pub next : Followed (K .parts)
   pub once : twice (spots (K .parts)) ≡ false
-  pub narrow : width (spots (K .parts)) ≤ sheetLimits .width
+  pub narrow : given (K .parts) ≤ sheetLimits .width
   pub roomEach : length (K .opened .samples) < sheetLimits .samplesEach
   pub room : samplesSoFar K < sheetLimits .samples
 

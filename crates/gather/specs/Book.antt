@@ -40,7 +40,13 @@ subframeOf l =
 
 abbrev pub componentOf : List ℕ → Component
 componentOf l =
-    record { subframe = partIn l .subframe; word = partIn l .word; low = partIn l .low; high = partIn l .high }
+    record {
+      subframe = partIn l .subframe;
+      word = partIn l .word;
+      low = partIn l .low;
+      high = partIn l .high;
+      overlap = partIn l .overlap;
+    }
 
 -- a parameter with the names of its 7-field line and nothing else yet
 abbrev pub namedOf : List ℕ → Parameter

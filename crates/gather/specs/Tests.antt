@@ -1,12 +1,11 @@
 -- The tests of a line, by what it turned out to be: 5 and 10, 12, the fields, 14, 15. Their order is lines' lineJudged.
-use Prim.Native.Nat.{ℕ, _+_, _*_}
-use mathlib.Core.Bool.{Bool, true, not, _&&_, _||_}
+use Prim.Native.Nat.{ℕ, _+_, _-_, _*_}
+use mathlib.Core.Bool.{Bool, true, false, not, _&&_, _||_}
 use mathlib.Core.List.{List, [], _∷_, _++_}
 use lib.Dec.{eqb, leb, ltb}
 use lib.ListN.{length}
 use Rattle.sample.specs.declared.component.Component.{Component as Piece}
 use Rattle.sample.specs.Clash.{twice}
-use Rattle.sample.specs.Joining.{width}
 use Rattle.text.specs.Refusals.{when}
 use Rattle.text.specs.declared.refusal.Refusal.the-variants.{NotDue, NotCarried, TooMany, BadSample, Repeated}
 use Rattle.text.specs.declared.refusal.Judged.{Judged}
@@ -18,6 +17,7 @@ use Rattle.lineforms.specs.declared.due.Form.the-variants.{Stray, Superframe, H
 use Rattle.model.specs.Content.{Parameter, Sample, Component}
 use Rattle.model.specs.Forms.{sheetLimits}
 use Rattle.model.specs.Identifiers.{namedApart}
+use Rattle.model.specs.Rules.{bitCount}
 use Rattle.gather.specs.Book.{Book, componentOf, namedOf, samplesSoFar, componentsSoFar, wordsOf, bitsOf}
 
 -- 5, "not the keyword, field count or blank line due here, or a line after the end"; "(a two-field line here is a superframe
@@ -113,14 +113,34 @@ unfoldable pub spots : List Component → List Piece
 spots [] = []
 spots (c ∷ cs) = spot c ∷ spots cs
 
--- "a bit twice in one sample; width above 32", at the component that does it
-unfoldable pub joinedTest : List Component → Judged
-joinedTest cs = when (twice (spots cs) || ltb (sheetLimits .width) (width (spots cs))) BadSample
+-- the bits that components give to their sample: all but those that overlap the next one
+unfoldable pub given : List Component → ℕ
+given [] = 0
+given (c ∷ cs) = bitCount c - c .overlap + given cs
 
--- "width unlike the parameter's first sample", "unequal width on the time line"
+-- the last one's overlap
+unfoldable pub lastOverlap : List Component → ℕ
+lastOverlap [] = 0
+lastOverlap (c ∷ []) = c .overlap
+lastOverlap (c ∷ d ∷ cs) = lastOverlap (d ∷ cs)
+
+-- component c behind cs, "at the component that does it": "a bit twice in one sample; width above 32", all its own bits counted; an
+-- overlap "not smaller than the component's own bit count"; one of the component before that is above "the next component"
+unfoldable pub joinedTest : List Component → Component → Judged
+joinedTest cs c =
+    when
+    (twice (spots (cs ++ (c ∷ [])))
+    || (ltb (sheetLimits .width) (given cs + bitCount c) || (leb (bitCount c) (c .overlap) || ltb (bitCount c) (lastOverlap cs))))
+    BadSample
+
+-- "width unlike the parameter's first sample"
+unfoldable pub unlikeFirst : List Sample → List Component → Bool
+unlikeFirst [] cs = false
+unlikeFirst (s ∷ ss) cs = not (eqb (given cs) (given (s .components)))
+
+-- on the time line: an overlap of the last component, which has no next one, "a width below 1", "unequal width"
 unfoldable pub widthTest : List Sample → List Component → Judged
-widthTest [] cs = Passes
-widthTest (s ∷ ss) cs = when (not (eqb (width (spots cs)) (width (spots (s .components))))) BadSample
+widthTest ss cs = when (not (eqb (lastOverlap cs) 0) || (ltb (given cs) 1 || unlikeFirst ss cs)) BadSample
 
 abbrev pub sampleTest : Form → Book → List ℕ → Judged
 sampleTest Stray K l = Passes
@@ -132,8 +152,8 @@ sampleTest RecordLine K l = Passes
 sampleTest NoneWord K l = Passes
 sampleTest ParameterWord K l = Passes
 sampleTest NameLine K l = Passes
-sampleTest OpeningComponent K l = joinedTest (K .parts ++ (componentOf l ∷ []))
-sampleTest ComponentLine K l = joinedTest (K .parts ++ (componentOf l ∷ []))
+sampleTest OpeningComponent K l = joinedTest (K .parts) (componentOf l)
+sampleTest ComponentLine K l = joinedTest (K .parts) (componentOf l)
 sampleTest TimeLine K l = widthTest (K .opened .samples) (K .parts)
 sampleTest SamplesEnd K l = Passes
 sampleTest SignedLine K l = Passes

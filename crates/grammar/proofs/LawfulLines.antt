@@ -117,7 +117,7 @@ module _ (subs : List Subframe) (few : length subs ≤ sheetLimits .subframes) (
           (
             six-counted (c .word) (omega (arith, h .word, r .fewWords)),
             (
-              six-counted 0 (omega arith),
+              six-counted (c .overlap) (omega (arith, h .lapped, h .inWord, r .fewBits)),
               ((omega (arith, h .rising, h .inWord, r .fewBits), omega (arith, h .inWord, r .fewBits)), tt),
             ),
           ),

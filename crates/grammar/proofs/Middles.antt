@@ -3,25 +3,26 @@
 use mathlib.Core.Path.{_≡_, refl, sym, ap, _∙_, subst}
 use mathlib.Core.Bool.{true, false}
 use mathlib.Core.List.{List, [], _∷_, _++_, append-assoc}
-use Prim.Native.Nat.{suc, _+_, _≤_, _<_}
+use Prim.Native.Nat.{ℕ, suc, _+_, _≤_, _<_}
 use native.Mathlib.Omega.{arith}
-use borrow.Author.Tests.{le-ltb, eq-eqb}
+use borrow.Author.Tests.{lt-leb, le-ltb, eq-eqb}
 use lib.ListN.{length, getD, length-append, List·getD-append}
 use Rattle.lay.proofs.Tests.{and-both}
 use Rattle.sample.specs.declared.component.Component.{Component as Piece}
 use Rattle.sample.specs.Clash.{clash, clashAny, twice}
-use Rattle.sample.specs.Joining.{width}
 use Rattle.text.specs.declared.refusal.Judged.the-variants.{Passes}
 use Rattle.written.proofs.Tests.{neither}
-use Rattle.model.specs.Content.{Content, Parameter, Sample, Component, Subframe, noParameter, noSample, noComponent, noSubframe, parameters}
+use Rattle.model.specs.Content.{Content, Parameter, Sample, Component, Subframe, noParameter, noSample, noComponent, noSubframe, parameters, component}
 use Rattle.model.specs.Forms.{sheetLimits}
 use Rattle.model.specs.Samples.{widthOf}
+use Rattle.model.specs.Rules.{bitCount, nextBits}
 use Rattle.model.specs.Meaning.{Lawful, ParameterLaw, SampleLaw, ComponentLaw, NamedApart}
 use Rattle.model.proofs.Meanings.{apart-made}
 use Rattle.gather.specs.Book.{samplesOf, componentsOf, allComponentsOf}
-use Rattle.gather.specs.Tests.{spot, spots, joinedTest, widthTest, apartFrom}
+use Rattle.gather.specs.Tests.{spot, spots, given, lastOverlap, joinedTest, unlikeFirst, widthTest, apartFrom}
 use Rattle.gather.proofs.Rows.{Each}
-use Rattle.gather.proofs.Spots.{spots-width, spots-twice}
+use Rattle.gather.proofs.Spots.{given-width, spots-twice}
+use Rattle.gather.proofs.Joinings.{given-join, Followed, next-followed, next-none}
 use Rattle.gather.proofs.Counts.{samples-counted, components-counted}
 
 pub at-middle : {A : Type 0} (xs : List A) (x : A) (ys : List A) (d : A) → getD (xs ++ (x ∷ ys)) (length xs) d ≡ x
@@ -95,18 +96,26 @@ module _ (subs : List Subframe) (p : Parameter) (h : ParameterLaw sheetLimits su
   pub sample-room : length ss < sheetLimits .samplesEach
   sample-room = omega (arith, sample-here, h .few)
 
-  pub width-passes : widthTest ss (s .components) ≡ Passes
-  unfolding widthTest
-  width-passes = go ss refl
+  like-first : unlikeFirst ss (s .components) ≡ false
+  unfolding unlikeFirst
+  like-first = go ss refl
     where
-      go : (xs : List Sample) → ss ≡ xs → widthTest xs (s .components) ≡ Passes
+      go : (xs : List Sample) → ss ≡ xs → unlikeFirst xs (s .components) ≡ false
       go [] q = refl
       go (r ∷ rs) q =
           let z : getD (p .samples) 0 noSample ≡ r = ap (λ (l : List Sample). getD l 0 noSample) (e ∙ ap (λ (l : List Sample). l ++ (s ∷ ts)) q) in
+          let a : SampleLaw sheetLimits subs r = subst (λ (t : Sample). SampleLaw sheetLimits subs t) z (h .each 0 (omega (arith, sample-here))) in
           let w : widthOf subs s ≡ widthOf subs r =
           sym (ap (widthOf subs) sample-is) ∙ h .alike (length ss) sample-here ∙ ap (widthOf subs) z in
-          let v : width (spots (s .components)) ≡ width (spots (r .components)) = sym (spots-width subs s) ∙ w ∙ spots-width subs r in
-          rw (eq-eqb (width (spots (s .components))) (width (spots (r .components))) v)
+          let v = sym (given-width subs s (sample-law .each)) ∙ w ∙ given-width subs r (a .each) in
+          rw (eq-eqb (given (s .components)) (given (r .components)) v)
+
+  pub width-passes : widthTest ss (s .components) ≡ Passes
+  unfolding widthTest
+  width-passes =
+      let z = next-none s (λ k l. sample-law .overlaps k l .next) in
+      let w : 1 ≤ given (s .components) = omega (arith, sample-law .wide, given-width subs s (sample-law .each)) in
+      rw (eq-eqb (lastOverlap (s .components)) 0 z, le-ltb (given (s .components)) 1 w, like-first)
 
 -- ---- a component
 
@@ -115,10 +124,23 @@ unfolding spots
 spots-join [] ds = refl
 spots-join (c ∷ cs) ds = ap (λ (l : List Piece). spot c ∷ l) (spots-join cs ds)
 
-width-join : (xs ys : List Piece) → width (xs ++ ys) ≡ width xs + width ys
-unfolding width
-width-join [] ys = omega arith
-width-join (x ∷ xs) ys = omega (arith, width-join xs ys)
+-- the components behind the first give what it overlaps
+given-first : (k : Component) (ds : List Component) → Followed (k ∷ ds) → lastOverlap (k ∷ ds) ≡ 0 → bitCount k ≤ given (k ∷ ds)
+unfolding given lastOverlap
+given-first k [] h z = omega arith
+given-first k (d ∷ ds) h z = omega (arith, h 0 (omega arith), given-first d ds (λ j l. h (suc j) (omega arith)) z)
+
+followed-middle : (cs : List Component) (k : Component) (ds : List Component) → Followed (cs ++ (k ∷ ds)) → (lastOverlap cs ≤ bitCount k) × Followed (k ∷ ds)
+unfolding lastOverlap
+followed-middle [] k ds h = (omega arith, h)
+followed-middle (c ∷ []) k ds h = (h 0 (omega arith), λ j l. h (suc j) (omega arith))
+followed-middle (c ∷ d ∷ cs) k ds h = followed-middle (d ∷ cs) k ds (λ j l. h (suc j) (omega arith))
+
+last-middle : (cs : List Component) (k : Component) (ds : List Component) → lastOverlap (cs ++ (k ∷ ds)) ≡ lastOverlap (k ∷ ds)
+unfolding lastOverlap
+last-middle [] k ds = refl
+last-middle (c ∷ []) k ds = refl
+last-middle (c ∷ d ∷ cs) k ds = last-middle (d ∷ cs) k ds
 
 any-front : (x : Piece) (xs ys : List Piece) → clashAny x (xs ++ ys) ≡ false → clashAny x xs ≡ false
 unfolding clashAny
@@ -147,13 +169,28 @@ module _ (subs : List Subframe) (small : Each (λ f. f .words ≤ sheetLimits .w
   pub part-room : length cs < sheetLimits .componentsEach
   part-room = omega (arith, part-here, h .few)
 
-  pub joined-passes : joinedTest (cs ++ (k ∷ [])) ≡ Passes
+  next : (i : ℕ) → i < length (s .components) → component s i .overlap ≤ nextBits s i
+  next i l = h .overlaps i l .next
+
+  followed : (lastOverlap cs ≤ bitCount k) × Followed (k ∷ ds)
+  followed = followed-middle cs k ds (subst Followed e (next-followed s next))
+
+  -- all its bits counted, since those behind it give what it overlaps
+  part-narrow : given cs + bitCount k ≤ sheetLimits .width
+  part-narrow =
+      let z : lastOverlap (k ∷ ds) ≡ 0 = sym (ap lastOverlap e ∙ last-middle cs k ds) ∙ next-none s next in
+      omega (arith, h .narrow, given-width subs s (h .each), ap given e, given-join cs (k ∷ ds), given-first k ds (followed .1) z)
+
+  pub joined-passes : joinedTest cs k ≡ Passes
   unfolding joinedTest
   joined-passes =
       let q : s .components ≡ (cs ++ (k ∷ [])) ++ ds = e ∙ sym (append-assoc cs (k ∷ []) ds) in
       let j : spots (s .components) ≡ spots (cs ++ (k ∷ [])) ++ spots ds = ap spots q ∙ spots-join (cs ++ (k ∷ [])) ds in
       let t : twice (spots (cs ++ (k ∷ []))) ≡ false =
       twice-front (spots (cs ++ (k ∷ []))) (spots ds) (sym (ap twice j) ∙ sym (spots-twice subs small s (h .each)) ∙ h .once) in
-      let w : width (spots (cs ++ (k ∷ []))) ≤ sheetLimits .width =
-      omega (arith, h .narrow, spots-width subs s, ap width j, width-join (spots (cs ++ (k ∷ []))) (spots ds)) in
-      rw (t, le-ltb (sheetLimits .width) (width (spots (cs ++ (k ∷ [])))) w)
+      rw (
+        t,
+        le-ltb (sheetLimits .width) (given cs + bitCount k) part-narrow,
+        lt-leb (bitCount k) (k .overlap) (part-law .lapped),
+        le-ltb (bitCount k) (lastOverlap cs) (followed .0),
+      )

@@ -10,6 +10,7 @@ use lib.ListN.{length, length-append}
 use Rattle.text.specs.Fields.{fieldOf, fieldCount}
 use Rattle.text.specs.Refusals.{first}
 use Rattle.text.specs.declared.refusal.Judged.the-variants.{Passes}
+use Rattle.spell.specs.Integers.{mostOfSix}
 use Rattle.spell.specs.Decimals.{point}
 use Rattle.written.specs.Words.{IsDecimal}
 use Rattle.written.proofs.Passing.{all-first}
@@ -28,7 +29,7 @@ use Rattle.grammar.proofs.Tidy.{Tidy}
 use Rattle.grammar.proofs.FoundFields.{field-tidy}
 use Rattle.grammar.proofs.Partings.{fields-count, one-count, fields-at}
 use Rattle.grammar.proofs.FieldLists.{_&_, all-fields}
-use Rattle.grammar.proofs.Spellings.{name-spelled, name-taken, text-spelled, text-taken, truth-spelled, truth-taken, empty-spelled, empty-taken, declared-spelled, declared-taken, overlap-spelled, overlap-taken}
+use Rattle.grammar.proofs.Spellings.{name-spelled, name-taken, text-spelled, text-taken, truth-spelled, truth-taken, empty-spelled, empty-taken, declared-spelled, declared-taken, integer-spelled, six-taken}
 use Rattle.grammar.proofs.MeasureSpellings.{time-spelled, time-taken, bits-spelled, bits-taken}
 
 -- ---- the line of names
@@ -85,7 +86,7 @@ component-told s words bits l c n e =
     all-fields l (componentLine (componentOf l)) (omega arith) n
     (declared-spelled (fieldOf 0 l) s (q 0)
     & declared-spelled (fieldOf 1 l) (declaredFor words (subframeIn l)) (q 1)
-    & overlap-spelled (fieldOf 2 l) (q 2)
+    & integer-spelled (fieldOf 2 l) 6 0 mostOfSix (q 2)
     & bits-spelled (fieldOf 3 l) (declaredFor bits (subframeIn l)) (q 3)
     & tt)
 
@@ -105,8 +106,9 @@ pub record ComponentRead (s : ℕ) (words bits : List ℕ) (l : List ℕ) (c : C
   pub says : componentOf l ≡ c
 
 -- a component of the same numbers is the same
-same-component : (c : Component) (p q a b : ℕ) → p ≡ c .subframe → q ≡ c .word → a ≡ c .low → b ≡ c .high → record { subframe = p; word = q; low = a; high = b } ≡ c
-same-component c p q a b i j k m = rw (i, j, k, m) refl
+same-component : (c : Component) (p q a b o : ℕ) → p ≡ c .subframe → q ≡ c .word → a ≡ c .low → b ≡ c .high → o ≡ c .overlap
+    → record { subframe = p; word = q; low = a; high = b; overlap = o } ≡ c
+same-component c p q a b o i j k m n = rw (i, j, k, m, n) refl
 
 pub component-read : (s : ℕ) (words bits : List ℕ) (l : List ℕ) (c : Component) → Within s words bits c → Fields l (componentLine c) → ComponentRead s words bits l c
 component-read s words bits l c h w =
@@ -114,11 +116,12 @@ component-read s words bits l c h w =
     let a = declared-taken (fieldOf 0 l) s (c .subframe) (h .someHome) (h .home) (r 0 (omega arith)) in
     let i : subframeIn l ≡ c .subframe = a .1 in
     let b = declared-taken (fieldOf 1 l) (declaredFor words (subframeIn l)) (c .word) (h .someWord) (rw i (h .word)) (r 1 (omega arith)) in
+    let o = six-taken (fieldOf 2 l) (c .overlap) (r 2 (omega arith)) in
     let d = bits-taken (fieldOf 3 l) (declaredFor bits (subframeIn l)) (c .low) (c .high) (h .someBit) (h .rising) (rw i (h .bit)) (r 3 (omega arith)) in
     record {
       count = fields-count l (componentLine c) (omega arith) w;
-      pass = all-first (componentFields s words bits l) (a .0 & b .0 & overlap-taken (fieldOf 2 l) (r 2 (omega arith)) & d .0 & tt);
-      says = same-component c _ _ _ _ i (b .1) (d .1) (d .2);
+      pass = all-first (componentFields s words bits l) (a .0 & b .0 & o .0 & d .0 & tt);
+      says = same-component c _ _ _ _ _ i (b .1) (d .1) (d .2) (o .1);
     }
 
 -- ---- a time line

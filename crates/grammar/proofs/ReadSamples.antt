@@ -72,7 +72,7 @@ module _ (K : Book) (c : Content) (h : Lawful sheetLimits c) (k : Component) (x 
       }
 
   -- 14
-  component-joins : joinedTest (K .parts ++ (k ∷ [])) ≡ Passes
+  component-joins : joinedTest (K .parts) k ≡ Passes
   component-joins = joined-passes (c .subframes) (λ i l. h .eachSubframe i l .fewWords) sample open-sample (K .parts) k (x .parts) refl
 
   -- 12
@@ -133,7 +133,7 @@ module _ (K : Book) (l : List ℕ) (c : Content) (ls : List (List Item)) (h : La
       component-read (K .declared) (wordsOf (K .pairs)) (bitsOf (K .pairs)) l (x .component) (component-within K c h (x .component) (x .middle))
       (x .first .line .fields)
 
-  comes-joins : joinedTest (K .parts ++ (componentOf l ∷ [])) ≡ Passes
+  comes-joins : joinedTest (K .parts) (componentOf l) ≡ Passes
   comes-joins = rw (comes-read .says) (component-joins K c h (x .component) (x .middle))
 
   comes-left : PartsLeft (parting K (K .parts ++ (componentOf l ∷ []))) c ls

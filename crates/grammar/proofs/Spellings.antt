@@ -16,7 +16,7 @@ use Rattle.text.specs.declared.refusal.Judged.the-variants.{Passes}
 use Rattle.spell.specs.Answers.{numberJudged, amountOf}
 use Rattle.spell.specs.Texts.{longestText, textJudged, version, versionJudged, emptyJudged}
 use Rattle.spell.specs.Truths.{saysTrue, truthJudged, truthOrEmptyJudged}
-use Rattle.spell.specs.Integers.{mostOfSix, integerJudged, integerOf, declaredJudged, overlapJudged, marginOf, labelJudged}
+use Rattle.spell.specs.Integers.{mostOfSix, integerJudged, integerOf, declaredJudged, marginOf, labelJudged}
 use Rattle.spell.specs.declared.answers.Number.the-variants.{Value}
 use Rattle.written.specs.Words.{IsInteger}
 use Rattle.written.proofs.Empty.{empty-nil, nil-empty, numeral-some}
@@ -24,7 +24,7 @@ use Rattle.written.proofs.Passing.{first-all}
 use Rattle.written.proofs.Places.{six-below}
 use Rattle.written.proofs.Texts.{text-exactly, version-exactly, empty-exactly}
 use Rattle.written.proofs.Truths.{truth-test, truth-or-empty-exactly}
-use Rattle.written.proofs.Integers.{integer-exactly, overlap-exactly}
+use Rattle.written.proofs.Integers.{integer-exactly}
 use Rattle.written.proofs.Judges.{integer-judged, declared-judged, label-judged, truth-judged}
 use Rattle.lines.specs.Line.{isClean}
 use Rattle.lineforms.proofs.Judging.{integer-same}
@@ -159,12 +159,9 @@ module _ (f : List ℕ) where
   declared-taken count v a b r =
       (declared-judged f count .1 (v, (r, a, b)), integer-taken 6 0 mostOfSix v (omega arith) (six-small v r) r .1)
 
-  -- an overlap is 0
-  pub overlap-spelled : overlapJudged f ≡ Passes → Spelled (integer 6 0) f
-  overlap-spelled e = overlap-exactly f .0 e
-
-  pub overlap-taken : Spelled (integer 6 0) f → overlapJudged f ≡ Passes
-  overlap-taken r = overlap-exactly f .1 r
+  -- a number that is only asked to have six digits
+  pub six-taken : (v : ℕ) → Spelled (integer 6 v) f → (integerJudged 6 0 mostOfSix f ≡ Passes) × (amountOf (integerOf 6 0 mostOfSix f) ≡ v)
+  six-taken v r = integer-taken 6 0 mostOfSix v (omega arith) (six-small v r) r
 
   -- empty is unknown; the number that stands for it is not spelled so
   pub margin-spelled : numberJudged (marginOf (sheetLimits .margin) blankMargin f) ≡ Passes → Spelled (margin (marginAs (amountOf (marginOf (sheetLimits .margin) blankMargin f)))) f

@@ -81,9 +81,10 @@ nameLine p =
     ∷ []
 
 -- "one or more samples: component lines (subframe, word, overlap, bits), least significant first, then a line with the time
--- offset alone"; no overlap bits but 0
+-- offset alone"
 abbrev pub componentLine : Component → List Item
-componentLine c = integer 6 (c .subframe) ∷ integer 6 (c .word) ∷ integer 6 0 ∷ bits (c .low) (c .high) ∷ []
+componentLine c =
+    integer 6 (c .subframe) ∷ integer 6 (c .word) ∷ integer 6 (c .overlap) ∷ bits (c .low) (c .high) ∷ []
 
 abbrev pub componentLines : List Component → List (List Item)
 componentLines [] = []

@@ -8,13 +8,15 @@ use lib.Dec.{eqb, ltb}
 use lib.ListN.{length, getD}
 use Rattle.lay.specs.Below.{every, all, any, find}
 use Rattle.lay.proofs.Below.{all-same, any-same, find-same}
-use Rattle.sample.specs.Joining.{width}
 use Rattle.text.specs.declared.refusal.Refusal.the-variants.{BadIdentifiers}
 use Rattle.model.specs.Content.{Content, Parameter, Subframe, noParameter, parameter, parameters, subframes, sample}
+use Rattle.model.specs.Forms.{sheetLimits}
+use Rattle.model.specs.Meaning.{ParameterLaw}
 use Rattle.model.specs.Identifiers.{lies, identifierOk, identifiedApart, identifies, taken}
-use Rattle.gather.specs.Tests.{spots}
+use Rattle.gather.specs.Tests.{given}
 use Rattle.gather.specs.Ruling.{Accepted, Refused, firstBad, identified}
-use Rattle.gather.proofs.Spots.{spots-width}
+use Rattle.gather.proofs.Rows.{Each}
+use Rattle.gather.proofs.Spots.{given-width}
 use Rattle.judge.specs.Keeping.{row, homeIn, aloneIn, flagOf, isGood, goodOf, homeOf}
 use Rattle.judge.specs.Sixteen.{unlikeIn, newIn, identifiesIn, badIn, liesIn, takenIn}
 use Rattle.judge.specs.Walk.{verdictOf, identifiedIn}
@@ -42,12 +44,12 @@ twice-not true = refl
 twice-not false = refl
 
 -- what alone is in order
-good-is : (subs : List Subframe) (p : Parameter) → isGood p ≡ (p .identifier && identifierOk subs p)
+good-is : (subs : List Subframe) (p : Parameter) → ParameterLaw sheetLimits subs p → isGood p ≡ (p .identifier && identifierOk subs p)
 unfolding isGood identifierOk every aloneIn homeIn
-good-is subs p =
-    rw (spots-width subs (sample p 0), and-true (ltb (p .value) (2 ^ width (spots (sample p 0 .components)))))
+good-is subs p h =
+    rw (given-width subs (sample p 0) (h .each 0 (h .some) .each), and-true (ltb (p .value) (2 ^ given (sample p 0 .components))))
 
-module _ (c : Content) where
+module _ (c : Content) (law : Each (ParameterLaw sheetLimits (c .subframes)) noParameter (c .parameters)) where
   abbrev ps : List Parameter
   ps = c .parameters
 
@@ -71,7 +73,7 @@ module _ (c : Content) where
   unfolding goodOf
   good-at k h =
       ap (λ (n : ℕ). not (eqb n 0)) (getD-row goodOf ps k h)
-      ∙ (ap not (flag-test (isGood (parameter c k))) ∙ (twice-not (isGood (parameter c k)) ∙ good-is (c .subframes) (parameter c k)))
+      ∙ (ap not (flag-test (isGood (parameter c k))) ∙ (twice-not (isGood (parameter c k)) ∙ good-is (c .subframes) (parameter c k) (law k h)))
 
   home-at : (k : ℕ) → k < length ps → getD hs k 0 ≡ lies (parameter c k)
   unfolding homeOf homeIn

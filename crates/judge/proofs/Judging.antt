@@ -185,7 +185,7 @@ module _ {s ps ts ns ks : List ℕ} {c : Cursor} {t : State} (w : Judging s ps t
       ∙ (ap₂ (λ (a b : List ℕ). identifiedIn x (row flagOf (K .parameters)) (row goodOf (K .parameters)) a b (take (x .parameters) ks))
       (kept homeOf 2 (w .homes)) (kept (λ p. p .value) 3 (w .values))
       ∙ (ap (identifiedIn x (row flagOf (K .parameters)) (row goodOf (K .parameters)) (row homeOf (K .parameters)) (row (λ p. p .value) (K .parameters))) m
-      ∙ (identified-is (contentOf K) x (w .opens) counted z
+      ∙ (identified-is (contentOf K) (r .between .whole .each) x (w .opens) counted z
       ∙ (ap (verdictOf (identified (contentOf K) (w .opens))) (w .mine)
       ∙ (sym (answer-end (t .due) K (w .opens) (c .number) e) ∙ ended l)))))
 

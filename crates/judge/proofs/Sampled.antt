@@ -1,6 +1,6 @@
 -- What the code keeps of the open sample and of the first whole one is what was gathered. Assumes nothing.
 use mathlib.Core.Path.{_≡_, refl, sym, ap, ap₂, _∙_}
-use mathlib.Core.Bool.{true, false, cond, _&&_}
+use mathlib.Core.Bool.{true, false, cond, not, _&&_}
 use mathlib.Core.List.{List, [], _∷_, _++_}
 use Prim.Native.Nat.{ℕ, zero, suc, _+_, _-_, _≤_, _<_}
 use native.Mathlib.Omega.{arith}
@@ -10,8 +10,6 @@ use lib.ListN.{length, getD, take}
 use Rattle.lay.specs.Below.{all}
 use Rattle.lay.proofs.Below.{all-same}
 use Rattle.sample.specs.declared.component.Component.{Component as Piece}
-use Rattle.sample.specs.Component.{bitsOf}
-use Rattle.sample.specs.Joining.{width}
 use Rattle.sample.specs.Promise.{listed}
 use Rattle.lineforms.specs.Said.{partIn}
 use Rattle.lineforms.specs.declared.due.Form.{Form}
@@ -19,7 +17,8 @@ use Rattle.lineforms.specs.declared.due.Form.the-variants.{Stray, Superframe, H
 use Rattle.model.specs.Content.{Component, Sample, noComponent, noSample}
 use Rattle.model.specs.Forms.{sheetLimits}
 use Rattle.gather.specs.Book.{Book, grow, componentOf}
-use Rattle.gather.specs.Tests.{spot, spots, joinedTest, widthTest, sampleTest}
+use Rattle.gather.specs.Tests.{spot, spots, given, lastOverlap, joinedTest, unlikeFirst, widthTest, sampleTest}
+use Rattle.gather.proofs.Joinings.{given-more}
 use Rattle.gather.proofs.Sound.{Told}
 use Rattle.judge.specs.Counts.{tallyOf}
 use Rattle.judge.specs.Keeping.{homeIn, aloneIn}
@@ -34,13 +33,11 @@ unfolding spots
 spots-snoc [] c = refl
 spots-snoc (d ∷ cs) c = ap (λ (l : List Piece). spot d ∷ l) (spots-snoc cs c)
 
-width-snoc : (ps : List Piece) (p : Piece) → width (ps ++ (p ∷ [])) ≡ width ps + bitsOf p
-unfolding width
-width-snoc [] p = omega arith
-width-snoc (q ∷ ps) p = omega (arith, width-snoc ps p)
-
-spots-width-snoc : (cs : List Component) (c : Component) → width (spots (cs ++ (c ∷ []))) ≡ width (spots cs) + bitsOf (spot c)
-spots-width-snoc cs c = ap width (spots-snoc cs c) ∙ width-snoc (spots cs) (spot c)
+last-snoc : (cs : List Component) (c : Component) → lastOverlap (cs ++ (c ∷ [])) ≡ c .overlap
+unfolding lastOverlap
+last-snoc [] c = refl
+last-snoc (d ∷ []) c = refl
+last-snoc (d ∷ e ∷ cs) c = last-snoc (e ∷ cs) c
 
 getD-front : (cs : List Component) (c : Component) (k : ℕ) → k < length cs → getD (cs ++ (c ∷ [])) k noComponent ≡ getD cs k noComponent
 getD-front [] c k h = absurd (omega arith)
@@ -82,7 +79,8 @@ alone-snoc (d ∷ cs) c = rw (some (length cs)) (lying (d ∷ cs) c (d .subframe
 pub record OfParts (g : Sampling) (cs : List Component) : Type 0 where
   pub count : g .spots .count ≡ length cs
   pub side : listed (g .spots) ≡ spots cs
-  pub wide : g .width ≡ width (spots cs)
+  pub wide : g .width ≡ given cs
+  pub lapped : g .lapped ≡ lastOverlap cs
   pub home : g .home ≡ homeIn cs
   pub alone : g .alone ≡ aloneIn cs
 
@@ -90,7 +88,7 @@ abbrev front : List Sample → List Component
 front ss = getD ss 0 noSample .components
 
 pub record OfFirst (g : Sampling) (ss : List Sample) : Type 0 where
-  pub first : g .first ≡ width (spots (front ss))
+  pub first : g .first ≡ given (front ss)
   pub lies : g .lies ≡ homeIn (front ss)
   pub within : g .within ≡ aloneIn (front ss)
 
@@ -104,7 +102,8 @@ module _ (g r : Sampling) where
       record {
         count = w .count ∙ (ap (λ (k : ℕ). k + 1) (h .count) ∙ one cs);
         side = w .spots ∙ (ap (λ (k : List Piece). k ++ (spotOf (partIn l) ∷ [])) (h .side) ∙ sym (spots-snoc cs (componentOf l)));
-        wide = w .width ∙ (ap (λ (k : ℕ). k + bitsIn (partIn l)) (h .wide) ∙ sym (spots-width-snoc cs (componentOf l)));
+        wide = w .width ∙ (ap (λ (k : ℕ). k + (bitsIn (partIn l) - partIn l .overlap)) (h .wide) ∙ sym (given-more cs (componentOf l)));
+        lapped = w .lapped ∙ sym (last-snoc cs (componentOf l));
         home = w .home ∙ (ap₂ (λ (k m : ℕ). cond (eqb k 0) (partIn l .subframe) m) e (h .home) ∙ sym (home-snoc cs (componentOf l)));
         alone = w .alone ∙ (rw (e, h .alone, h .home) (sym (alone-snoc cs (componentOf l))));
       }
@@ -112,12 +111,12 @@ module _ (g r : Sampling) where
       one : (ds : List Component) → length ds + 1 ≡ length (ds ++ (componentOf l ∷ []))
       one ds = omega (arith, length-last ds (componentOf l))
 
-  parts-none : r .spots .count ≡ 0 → r .width ≡ 0 → r .home ≡ 0 → r .alone ≡ true → OfParts r []
-  unfolding spots width homeIn aloneIn
-  parts-none a b c d = record { count = a; side = ap (λ (k : ℕ). take k (r .spots .list)) a; wide = b; home = c; alone = d }
+  parts-none : r .spots .count ≡ 0 → r .width ≡ 0 → r .lapped ≡ 0 → r .home ≡ 0 → r .alone ≡ true → OfParts r []
+  unfolding spots given lastOverlap homeIn aloneIn
+  parts-none a b o c d = record { count = a; side = ap (λ (k : ℕ). take k (r .spots .list)) a; wide = b; lapped = o; home = c; alone = d }
 
   first-none : r .first ≡ 0 → r .lies ≡ 0 → r .within ≡ true → OfFirst r []
-  unfolding spots width homeIn aloneIn
+  unfolding given homeIn aloneIn
   first-none a b c = record { first = a; lies = b; within = c }
 
   first-more : (cs : List Component) (ss : List Sample) (n t : ℕ) → n ≡ length ss → OfParts g cs → OfFirst g ss → Timed g n r → OfFirst r (ss ++ (record { time = t; components = cs } ∷ []))
@@ -137,7 +136,7 @@ module _ (g r : Sampling) where
 pub sampled-none : (r : Sampling) (K : Book) → Opened r → K .parts ≡ [] → K .opened .samples ≡ [] → Sampled r K
 sampled-none r K o p q =
     record {
-      parts = rw p (parts-none r r (o .count) (o .width) (o .home) (o .alone));
+      parts = rw p (parts-none r r (o .count) (o .width) (o .lapped) (o .home) (o .alone));
       whole = rw q (first-none r r (o .first) (o .lies) (o .within));
     }
 
@@ -153,7 +152,7 @@ sampled-step ParameterWord l K g r n m a b t h w = sampled-same g r K (grow Para
 sampled-step NameLine l K g r n m a b t h w = sampled-none r (grow NameLine l K) w (t .between .noParts) refl
 sampled-step OpeningComponent l K g r n m a b t h w = (let z = sampled-parted g r l K n a w h in record { parts = z .parts; whole = z .whole })
 sampled-step ComponentLine l K g r n m a b t h w = sampled-parted g r l K n a w h
-sampled-step TimeLine l K g r n m a b t h w = record { parts = parts-none r r (w .count) (w .width) (w .home) (w .alone); whole = first-more g r (K .parts) (K .opened .samples) m _ b (h .parts) (h .whole) w }
+sampled-step TimeLine l K g r n m a b t h w = record { parts = parts-none r r (w .count) (w .width) (w .lapped) (w .home) (w .alone); whole = first-more g r (K .parts) (K .opened .samples) m _ b (h .parts) (h .whole) w }
 sampled-step SamplesEnd l K g r n m a b t h w = sampled-same g r K (grow SamplesEnd l K) w refl refl h
 sampled-step SignedLine l K g r n m a b t h w = sampled-same g r K (grow SignedLine l K) w refl refl h
 sampled-step RangeLine l K g r n m a b t h w = sampled-same g r K (grow RangeLine l K) w refl refl h
@@ -164,15 +163,18 @@ sampled-step ParameterEnd l K g r n m a b t h w = sampled-none r (grow Parameter
 
 -- ---- 14
 
-joined-is : (g : Sampling) (l : List ℕ) (cs : List Component) → OfParts g cs → joinedIn g (partIn l) ≡ joinedTest (cs ++ (componentOf l ∷ []))
+joined-is : (g : Sampling) (l : List ℕ) (cs : List Component) → OfParts g cs → joinedIn g (partIn l) ≡ joinedTest cs (componentOf l)
 unfolding joinedTest
-joined-is g l cs h =
-    rw (h .side, h .wide, spots-snoc cs (componentOf l), width-snoc (spots cs) (spot (componentOf l)))
+joined-is g l cs h = rw (h .side, h .wide, h .lapped, spots-snoc cs (componentOf l))
 
-width-is : (g : Sampling) (cs : List Component) (ss : List Sample) (m : ℕ) → m ≡ length ss → OfParts g cs → OfFirst g ss → widthTestIn m (g .width) (g .first) ≡ widthTest ss cs
+like-first : (g : Sampling) (cs : List Component) (ss : List Sample) (m : ℕ) → m ≡ length ss → OfParts g cs → OfFirst g ss → cond (eqb m 0) false (not (eqb (g .width) (g .first))) ≡ unlikeFirst ss cs
+unfolding unlikeFirst
+like-first g cs [] m e h i = rw e
+like-first g cs (s ∷ ss) m e h i = rw (e, some (length ss), h .wide, i .first)
+
+width-is : (g : Sampling) (cs : List Component) (ss : List Sample) (m : ℕ) → m ≡ length ss → OfParts g cs → OfFirst g ss → widthTestIn m (g .lapped) (g .width) (g .first) ≡ widthTest ss cs
 unfolding widthTest
-width-is g cs [] m e h i = rw e
-width-is g cs (s ∷ ss) m e h i = rw (e, some (length ss), h .wide, i .first)
+width-is g cs ss m e h i = rw (like-first g cs ss m e h i, h .lapped, h .wide)
 
 pub sample-is : (f : Form) (l : List ℕ) (K : Book) (g : Sampling) (m : ℕ) → m ≡ length (K .opened .samples) → Sampled g K → sampleIn f l g m ≡ sampleTest f K l
 sample-is Stray l K g m e h = refl
@@ -196,8 +198,8 @@ sample-is SourceEnd l K g m e h = refl
 sample-is ParameterEnd l K g m e h = refl
 
 none-narrow : (g : Sampling) (cs : List Component) → OfParts g cs → cs ≡ [] → (g .spots .count ≡ 0) × (g .width ≤ sheetLimits .width)
-unfolding spots width
-none-narrow g cs h e = (h .count ∙ ap length e, let z : g .width ≡ 0 = h .wide ∙ ap (λ (c : List Component). width (spots c)) e in omega arith)
+unfolding given
+none-narrow g cs h e = (h .count ∙ ap length e, let z : g .width ≡ 0 = h .wide ∙ ap given e in omega arith)
 
 pub fitting : (f : Form) (K : Book) (g : Sampling) → Told f K → Sampled g K → Fitting f (tallyOf K) g
 fitting Stray K g t h = tt

@@ -5,12 +5,11 @@ use mathlib.Core.Bool.{Bool, true, false, cond, not, _&&_}
 use lib.Dec.{eqb, ltb}
 use lib.ListN.{length, getD}
 use Rattle.lay.specs.Below.{all}
-use Rattle.sample.specs.Joining.{width}
 use Rattle.lineforms.specs.Said.{pairIn}
 use Rattle.lineforms.specs.declared.due.Form.{Form}
 use Rattle.lineforms.specs.declared.due.Form.the-variants.{Stray, Superframe, HeaderWord, HeaderLine, RecordWord, RecordLine, NoneWord, ParameterWord, NameLine, OpeningComponent, ComponentLine, TimeLine, SamplesEnd, SignedLine, RangeLine, SourceLine, LabelLine, SourceEnd, ParameterEnd}
 use Rattle.model.specs.Content.{Parameter, Component, noComponent, sample}
-use Rattle.gather.specs.Tests.{spots}
+use Rattle.gather.specs.Tests.{given}
 use Rattle.judge.specs.declared.sampling.Sampling.{Sampling}
 use Rattle.judge.specs.declared.tally.Tally.{Tally}
 
@@ -85,7 +84,7 @@ isGood p =
     p .identifier
     && (eqb (length (p .samples)) 1
     && (aloneIn (sample p 0 .components)
-    && (not (p .signed) && ltb (p .value) (2 ^ width (spots (sample p 0 .components))))))
+    && (not (p .signed) && ltb (p .value) (2 ^ given (sample p 0 .components)))))
 
 unfoldable pub goodOf : Parameter → ℕ
 goodOf p = cond (isGood p) 1 0

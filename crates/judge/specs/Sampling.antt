@@ -1,9 +1,9 @@
 -- Not part of the meaning: what the code keeps of the open sample and of the open parameter's first one.
 use Prim.Native.Nat.{ℕ, _+_, _-_, _*_, _<_, _≤_}
-use mathlib.Core.Bool.{true, cond, not, _&&_, _||_}
+use mathlib.Core.Bool.{true, false, cond, not, _&&_, _||_}
 use mathlib.Core.List.{List, [], _∷_, _++_}
 use mathlib.Core.Path.{_≡_}
-use lib.Dec.{eqb, ltb}
+use lib.Dec.{eqb, leb, ltb}
 use Rattle.sample.specs.Clash.{twice}
 use Rattle.sample.specs.Promise.{listed}
 use Rattle.sample.specs.declared.component.Component.{Component as Piece}
@@ -26,15 +26,17 @@ spotOf p = record { word = p .subframe * wordSpan + p .word; low = p .low; high 
 abbrev pub bitsIn : Part → ℕ
 bitsIn p = p .high + 1 - p .low
 
--- own samples before, this width, the first one's
-abbrev pub widthTestIn : ℕ → ℕ → ℕ → Judged
-widthTestIn own wide first = cond (eqb own 0) Passes (when (not (eqb wide first)) BadSample)
+-- own samples before, this one's last overlap and width, the first one's width
+abbrev pub widthTestIn : ℕ → ℕ → ℕ → ℕ → Judged
+widthTestIn own lapped wide first =
+    when (not (eqb lapped 0) || (ltb wide 1 || cond (eqb own 0) false (not (eqb wide first)))) BadSample
 
 -- g with one component more, n before it
 pub record Widened (g : Sampling) (p : Part) (n : ℕ) (r : Sampling) : Type 0 where
   pub count : r .spots .count ≡ g .spots .count + 1
   pub spots : listed (r .spots) ≡ listed (g .spots) ++ (spotOf p ∷ [])
-  pub width : r .width ≡ g .width + bitsIn p
+  pub width : r .width ≡ g .width + (bitsIn p - p .overlap)
+  pub lapped : r .lapped ≡ p .overlap
   pub home : r .home ≡ cond (eqb n 0) (p .subframe) (g .home)
   pub alone : r .alone ≡ cond (eqb n 0) true (g .alone && eqb (p .subframe) (g .home))
   pub first : r .first ≡ g .first
@@ -45,6 +47,7 @@ pub record Widened (g : Sampling) (p : Part) (n : ℕ) (r : Sampling) : Type 0 w
 pub record Timed (g : Sampling) (own : ℕ) (r : Sampling) : Type 0 where
   pub count : r .spots .count ≡ 0
   pub width : r .width ≡ 0
+  pub lapped : r .lapped ≡ 0
   pub home : r .home ≡ 0
   pub alone : r .alone ≡ true
   pub first : r .first ≡ cond (eqb own 0) (g .width) (g .first)
@@ -55,6 +58,7 @@ pub record Timed (g : Sampling) (own : ℕ) (r : Sampling) : Type 0 where
 pub record Opened (r : Sampling) : Type 0 where
   pub count : r .spots .count ≡ 0
   pub width : r .width ≡ 0
+  pub lapped : r .lapped ≡ 0
   pub home : r .home ≡ 0
   pub alone : r .alone ≡ true
   pub first : r .first ≡ 0
@@ -63,9 +67,13 @@ pub record Opened (r : Sampling) : Type 0 where
 
 -- ---- by what a line turned out to be
 
--- a bit twice, or a width above its limit, with one component more
+-- a bit twice, a width above its limit, or an overlap above its own, with one component more
 abbrev pub joinedIn : Sampling → Part → Judged
-joinedIn g p = when (twice (listed (g .spots) ++ (spotOf p ∷ [])) || ltb (sheetLimits .width) (g .width + bitsIn p)) BadSample
+joinedIn g p =
+    when
+    (twice (listed (g .spots) ++ (spotOf p ∷ []))
+    || (ltb (sheetLimits .width) (g .width + bitsIn p) || (leb (bitsIn p) (p .overlap) || ltb (bitsIn p) (g .lapped))))
+    BadSample
 
 abbrev pub sampleIn : Form → List ℕ → Sampling → ℕ → Judged
 sampleIn Stray l g own = Passes
@@ -79,7 +87,7 @@ sampleIn ParameterWord l g own = Passes
 sampleIn NameLine l g own = Passes
 sampleIn OpeningComponent l g own = joinedIn g (partIn l)
 sampleIn ComponentLine l g own = joinedIn g (partIn l)
-sampleIn TimeLine l g own = widthTestIn own (g .width) (g .first)
+sampleIn TimeLine l g own = widthTestIn own (g .lapped) (g .width) (g .first)
 sampleIn SamplesEnd l g own = Passes
 sampleIn SignedLine l g own = Passes
 sampleIn RangeLine l g own = Passes

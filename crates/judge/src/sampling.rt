@@ -10,22 +10,19 @@ use sample::component::Components;
 use text::refusal::Judged;
 use text::refusal::Refusal;
 ghost use mathlib.Core.Path.{_≡_};
-ghost use mathlib.Core.Bool.{true, cond, _&&_, _||_};
-ghost use mathlib.Core.List.{[], _∷_, _++_};
-ghost use Prim.Native.Nat.{_+_, _-_, _<_, _≤_};
-ghost use lib.Dec.{eqb, ltb};
-ghost use Rattle.sample.specs.Clash.{twice};
-ghost use Rattle.sample.specs.Promise.{listed};
-ghost use Rattle.text.specs.Refusals.{when};
-ghost use Rattle.text.specs.declared.refusal.Refusal.the-variants.{BadSample};
+ghost use mathlib.Core.Bool.{true, cond, _&&_};
+ghost use Prim.Native.Nat.{_-_, _<_, _≤_};
+ghost use lib.Dec.{eqb};
 ghost use Rattle.lineforms.specs.Said.{Modest};
 ghost use Rattle.model.specs.Forms.{sheetLimits};
-ghost use Rattle.judge.specs.Sampling.{spotOf, bitsIn, widthTestIn, Widened, Timed, Opened, sampleIn, Apt, After};
+ghost use Rattle.judge.specs.Sampling.{spotOf, bitsIn, joinedIn, widthTestIn, Widened, Timed, Opened, sampleIn, Apt, After};
 
-// The open sample: its width, the subframe of its first component, whether all lie there. The first sample: the same.
+// The open sample: the bits that its components give, the last one's overlap, the subframe of its first component, whether all lie
+// there. The first sample: its width, subframe and whether all lie there.
 pub struct Sampling {
     pub spots: Components,
     pub width: u64,
+    pub lapped: u64,
     pub home: u64,
     pub alone: bool,
     pub first: u64,
@@ -48,25 +45,38 @@ fn spot_of(p: Part) -> Component
     }
 }
 
-// A bit twice, or a width above its limit, with one component more.
+// A bit twice, a width above its limit, or an overlap above its own, with one component more.
 fn joined_judged(g: Sampling, p: Part) -> Judged
     requires { ⌜ (g .spots .count < sheetLimits .componentsEach) × (g .width ≤ sheetLimits .width) × Modest p ⌝ }
-    ensures { λ r. ⌜ r ≡ when (twice (listed (g .spots) ++ (spotOf p ∷ [])) || ltb (sheetLimits .width) (g .width + bitsIn p)) BadSample ⌝ }
+    ensures { λ r. ⌜ r ≡ joinedIn g p ⌝ }
 {
     let spots = g.spots;
     if names_twice(spots.with(spot_of(p))) {
         return Judged::Refused(Refusal::BadSample);
     }
-    if (WIDTH as u64) < g.width + (p.high + 1 - p.low) {
+    let bits = p.high + 1 - p.low;
+    if (WIDTH as u64) < g.width + bits {
+        return Judged::Refused(Refusal::BadSample);
+    }
+    if bits <= p.overlap {
+        return Judged::Refused(Refusal::BadSample);
+    }
+    if bits < g.lapped {
         return Judged::Refused(Refusal::BadSample);
     }
     Judged::Passes
 }
 
-// The width against the first sample's, where this is not the first.
+// The last component overlaps none, and the width is the first sample's, where this is not the first.
 fn width_judged(g: Sampling, own: usize) -> Judged
-    ensures { λ r. ⌜ r ≡ widthTestIn own (g .width) (g .first) ⌝ }
+    ensures { λ r. ⌜ r ≡ widthTestIn own (g .lapped) (g .width) (g .first) ⌝ }
 {
+    if g.lapped != 0 {
+        return Judged::Refused(Refusal::BadSample);
+    }
+    if g.width < 1 {
+        return Judged::Refused(Refusal::BadSample);
+    }
     if own == 0 {
         return Judged::Passes;
     }
@@ -83,6 +93,7 @@ pub fn no_sample() -> Sampling
     Sampling {
         spots: Components::none(),
         width: 0,
+        lapped: 0,
         home: 0,
         alone: true,
         first: 0,
@@ -106,6 +117,18 @@ fn alone_of(n: usize, s: u64, home: u64, alone: bool) -> bool
     alone && s == home
 }
 
+// The bits that a component gives to its sample.
+fn given_by(p: Part) -> u64
+    requires { ⌜ Modest p ⌝ }
+    ensures { λ r. ⌜ r ≡ bitsIn p - p .overlap ⌝ }
+{
+    let bits = p.high + 1 - p.low;
+    if bits < p.overlap {
+        return 0;
+    }
+    bits - p.overlap
+}
+
 // One component more, n before it.
 fn with_part(g: Sampling, p: Part, n: usize) -> Sampling
     requires { ⌜ (g .spots .count < sheetLimits .componentsEach) × (g .width ≤ sheetLimits .width) × Modest p ⌝ }
@@ -114,7 +137,8 @@ fn with_part(g: Sampling, p: Part, n: usize) -> Sampling
     let spots = g.spots;
     Sampling {
         spots: spots.with(spot_of(p)),
-        width: g.width + (p.high + 1 - p.low),
+        width: g.width + given_by(p),
+        lapped: p.overlap,
         home: home_of(n, p.subframe, g.home),
         alone: alone_of(n, p.subframe, g.home, g.alone),
         ..g

@@ -54,6 +54,7 @@ modest l =
       word = amount-most 6 0 mostOfSix (fieldOf 1 l);
       rising = bits-modest mostOfSix (fieldOf 3 l) .0;
       high = bits-modest mostOfSix (fieldOf 3 l) .1;
+      overlap = amount-most 6 0 mostOfSix (fieldOf 2 l);
     }
 
 pub part-modest : (l : List ℕ) (p : Part) → p ≡ partIn l → (p ≡ partIn l) × Modest p

@@ -9,7 +9,7 @@ use Rattle.text.specs.declared.refusal.Judged.{Judged}
 use Rattle.spell.specs.Answers.{numberJudged, amountOf}
 use Rattle.spell.specs.Texts.{longestText, textJudged, versionJudged, emptyJudged}
 use Rattle.spell.specs.Truths.{truthJudged, truthOrEmptyJudged}
-use Rattle.spell.specs.Integers.{mostOfSix, integerJudged, integerOf, declaredJudged, overlapJudged, marginOf, labelJudged}
+use Rattle.spell.specs.Integers.{mostOfSix, integerJudged, integerOf, declaredJudged, marginOf, labelJudged}
 use Rattle.spell.specs.Decimals.{decimalJudged, delayJudged}
 use Rattle.spell.specs.BitRanges.{componentBitsJudged, sourceBitsJudged}
 use Rattle.spell.specs.Durations.{secondsJudged}
@@ -90,7 +90,7 @@ abbrev pub componentFields : ℕ → List ℕ → List ℕ → List ℕ → List
 componentFields subframes words bits l =
     declaredJudged subframes (fieldOf 0 l)
     ∷ declaredJudged (declaredFor words (subframeIn l)) (fieldOf 1 l)
-    ∷ overlapJudged (fieldOf 2 l)
+    ∷ integerJudged 6 0 mostOfSix (fieldOf 2 l)
     ∷ componentBitsJudged (declaredFor bits (subframeIn l)) (fieldOf 3 l)
     ∷ []
 

@@ -66,6 +66,7 @@ partIn l =
       word = amountOf (integerOf 6 0 mostOfSix (fieldOf 1 l));
       low = lowOf (componentBitsOf mostOfSix (fieldOf 3 l));
       high = highOf (componentBitsOf mostOfSix (fieldOf 3 l));
+      overlap = amountOf (integerOf 6 0 mostOfSix (fieldOf 2 l));
     }
 
 -- not part of the meaning: six digits are never more
@@ -74,6 +75,7 @@ pub record Modest (p : Part) : Type 0 where
   pub word : p .word ≤ 999999
   pub rising : p .low ≤ p .high
   pub high : p .high ≤ 999999
+  pub overlap : p .overlap ≤ 999999
 
 -- the time line, in millionths
 abbrev pub timeIn : List ℕ → ℕ

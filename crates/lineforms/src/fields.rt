@@ -17,7 +17,6 @@ use spell::integers::declared;
 use spell::integers::integer;
 use spell::integers::label;
 use spell::integers::margin;
-use spell::integers::overlap;
 use spell::ranges::component_bits;
 use spell::ranges::source_bits;
 use spell::seconds::seconds;
@@ -147,7 +146,7 @@ pub fn component_fields(line: &[u8], subframes: u64, words: &[u64], bits: &[u64]
         a,
         number_judged(declared(field_of(line, 1), declared_for(words, s))),
     );
-    let c = or_else(b, overlap(field_of(line, 2)));
+    let c = or_else(b, integer_at(line, 2, 6, 0, 999999));
     or_else(
         c,
         bits_judged(component_bits(field_of(line, 3), declared_for(bits, s))),

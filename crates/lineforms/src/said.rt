@@ -35,6 +35,7 @@ pub struct Part {
     pub word: u64,
     pub low: u64,
     pub high: u64,
+    pub overlap: u64,
 }
 
 // The header line: how many subframes, and whether sequential.
@@ -129,6 +130,7 @@ pub fn part_in(line: &[u8]) -> Part
         word: amount(integer(field_of(line, 1), 6, 0, 999999)),
         low: low_of(x),
         high: high_of(x),
+        overlap: amount(integer(field_of(line, 2), 6, 0, 999999)),
     }
 }
 

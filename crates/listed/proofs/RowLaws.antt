@@ -1,5 +1,5 @@
 -- The rows of a parameter by what its table stores. Assumes nothing.
-use mathlib.Core.Path.{_≡_, refl, sym, ap, ap₂, subst, _∙_}
+use mathlib.Core.Path.{_≡_, refl, sym, ap, subst, _∙_}
 use mathlib.Core.List.{List}
 use Prim.Native.Nat.{ℕ, _+_, _*_, _≤_, _<_}
 use native.Mathlib.Omega.{arith}
@@ -28,7 +28,7 @@ use Rattle.rules.specs.Ruled.{Ruled, subframesOf}
 use Rattle.framing.proofs.Answered.{raw-below}
 use Rattle.framing.proofs.Listed.{listed-at}
 use Rattle.model.proofs.Pieces.{width-some}
-use Rattle.framing.specs.Reading.{rawOf, widthIs, valueOf, sampleRead}
+use Rattle.framing.specs.Reading.{rawOf, widthIs, valueOf, copiesAgree, sampleRead}
 use Rattle.framing.specs.declared.read.Reading.{Reading}
 use Rattle.framing.specs.declared.read.Reading.the-variants as reading
 use Rattle.table.specs.declared.reason.Reason.{Reason}
@@ -52,17 +52,25 @@ pub record Rows (b : List ℕ) (i : ℕ) (row : ℕ → List ℕ) (each : ℕ) (
 
 -- ---- what a reading holds
 
-abbrev raw-in : Reading → ℕ
+abbrev pub raw-in : Reading → ℕ
 raw-in (reading.Sample r w v) = r
+raw-in (reading.OverlapDiffers r w v) = r
 raw-in (reading.Refused q) = 0
 
-abbrev width-in : Reading → ℕ
+abbrev pub width-in : Reading → ℕ
 width-in (reading.Sample r w v) = w
+width-in (reading.OverlapDiffers r w v) = w
 width-in (reading.Refused q) = 0
 
-abbrev value-in : ℤ → Reading → ℤ
+abbrev pub value-in : ℤ → Reading → ℤ
 value-in z (reading.Sample r w v) = v
+value-in z (reading.OverlapDiffers r w v) = v
 value-in z (reading.Refused q) = z
+
+-- of either of two readings
+either : {A : Type 0} {a : A} (g : Reading → A) (t : Bool) {x y : Reading} → g x ≡ a → g y ≡ a → g (cond t x y) ≡ a
+either g true p q = p
+either g false p q = q
 
 -- ---- what a table stores of parameter i
 
@@ -85,6 +93,21 @@ module _ (b : List ℕ) (h : Ruled b) (i : ℕ) (l : i < parametersIn b) where
   unfolding sampleRow
   row-most f j = omega (arith, row-short (parameter (view b) i .name) (j + 1) (widthIs (view b) i j) (rawOf (view b) f i j) (valueOf (view b) f i j), ap length name-is, name-short)
 
+  -- ---- what is read of a listed sample
+
+  module _ (f : List ℕ) (j : ℕ) where
+    raw-read : raw-in (sampleRead (view b) f i j) ≡ rawOf (view b) f i j
+    unfolding sampleRead
+    raw-read = either raw-in (copiesAgree (view b) f i j) refl refl
+
+    width-read : width-in (sampleRead (view b) f i j) ≡ widthIs (view b) i j
+    unfolding sampleRead
+    width-read = either width-in (copiesAgree (view b) f i j) refl refl
+
+    value-read : (z : ℤ) → value-in z (sampleRead (view b) f i j) ≡ valueOf (view b) f i j
+    unfolding sampleRead
+    value-read z = either (value-in z) (copiesAgree (view b) f i j) refl refl
+
   -- ---- a listed sample's value fits the machine's number
 
   module _ (f : List ℕ) (j : ℕ) (m : j < sampleCountIn b i) where
@@ -106,22 +129,25 @@ module _ (b : List ℕ) (h : Ruled b) (i : ℕ) (l : i < parametersIn b) where
         go true = record { sfits = lt-of-lt-of-le (signed-mag (widthIs (view b) i j) (rawOf (view b) f i j) width-least (raw-below (view b) f i j)) (pow-mono {j = 63} (omega (arith, width-most))) }
         go false = record { sfits = lt-of-lt-of-le (raw-below (view b) f i j) (pow-mono {j = 63} (omega (arith, width-most))) }
 
-    pub value-back : (r w : ℕ) (v : ℤ) → reading.Sample r w v ≡ sampleRead (view b) f i j → toZ w64 (ofZ w64 v) ≡ v
-    unfolding sampleRead
-    value-back r w v q = toZ-ofZ w64 v (subst (SFits w64) (sym (ap (value-in v) q)) value-fits)
+    pub value-back : (q : Reading) (v : ℤ) → q ≡ sampleRead (view b) f i j → ((z : ℤ) → v ≡ value-in z q) → toZ w64 (ofZ w64 v) ≡ v
+    value-back q v e h = toZ-ofZ w64 v (subst (SFits w64) (sym (h v ∙ ap (value-in v) e ∙ value-read f j v)) value-fits)
 
-  -- ---- a sample that is read is a row
+  -- ---- a sample that is read is a row, whether its copies agree or not
 
-  pub read-row : (f out after : List ℕ) (o e j r w : ℕ) (v : ℤ) (name : List ℕ) → reading.Sample r w v ≡ sampleRead (view b) f i j → name ≡ nameIn b i → Step out o (rowText name (j + 1) w r v) e after → Step out o (sampleRow (view b) f i j) e after
-  unfolding sampleRead sampleRow
-  read-row f out after o e j r w v name q n s =
+  pub read-row : (f out after : List ℕ) (o e j r w : ℕ) (v : ℤ) (q : Reading) (name : List ℕ) → q ≡ sampleRead (view b) f i j → (r ≡ raw-in q) × (w ≡ width-in q) × ((z : ℤ) → v ≡ value-in z q) → name ≡ nameIn b i → Step out o (rowText name (j + 1) w r v) e after → Step out o (sampleRow (view b) f i j) e after
+  unfolding sampleRow
+  read-row f out after o e j r w v q name x h n s =
       let row : rowText name (j + 1) w r v ≡ rowText (parameter (view b) i .name) (j + 1) (widthIs (view b) i j) (rawOf (view b) f i j) (valueOf (view b) f i j) =
-      ap₂ (λ (x : List ℕ) (t : Reading). rowText x (j + 1) (width-in t) (raw-in t) (value-in v t)) (n ∙ sym name-is) q in
+      λ z. rowText ((n ∙ sym name-is) z) (j + 1) ((h .1 ∙ ap width-in x ∙ width-read f j) z) ((h .0 ∙ ap raw-in x ∙ raw-read f j) z) ((h .2 v ∙ ap (value-in v) x ∙ value-read f j v) z) in
       subst (λ (x : List ℕ). Step out o x e after) row s
 
   pub never-refused : (f : List ℕ) (j : ℕ) (q : Reason) → reading.Refused q ≡ sampleRead (view b) f i j → ⊥
   unfolding sampleRead
-  never-refused f j q e = let z : _≡_ {A = ℕ} 0 1 = cc in omega arith
+  never-refused f j q e = go (copiesAgree (view b) f i j) e
+    where
+      go : (t : Bool) → reading.Refused q ≡ cond t (reading.Sample (rawOf (view b) f i j) (widthIs (view b) i j) (valueOf (view b) f i j)) (reading.OverlapDiffers (rawOf (view b) f i j) (widthIs (view b) i j) (valueOf (view b) f i j)) → ⊥
+      go true e = let z : _≡_ {A = ℕ} 0 1 = cc in omega arith
+      go false e = let z : _≡_ {A = ℕ} 0 1 = cc in omega arith
 
   -- ---- row after row
 

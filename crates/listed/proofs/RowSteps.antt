@@ -63,3 +63,7 @@ row-back out name after o sample width raw e u v p s = subst (λ (z : ℤ). Step
 
 pub last-back : (out after : List ℕ) (o e s : ℕ) (u v : ℤ) → u ≡ v → Step out o (valueText u ++ (s ∷ [])) e after → Step out o (valueText v ++ (s ∷ [])) e after
 last-back out after o e s u v p t = subst (λ (z : ℤ). Step out o (valueText z ++ (s ∷ [])) e after) p t
+
+-- and the row of a name is that of an equal one
+pub row-named : (out after name own : List ℕ) (o e s w r : ℕ) (v z : ℤ) → v ≡ z → name ≡ own → Step out o (rowText name s w r v) e after → Step out o (rowText own s w r z) e after
+row-named out after name own o e s w r v z x n t = subst (λ (y : ℤ). Step out o (rowText own s w r y) e after) x (subst (λ (y : List ℕ). Step out o (rowText y s w r v) e after) n t)

@@ -19,9 +19,10 @@ ghost use lib.ListN.{length};
 ghost use Rattle.io.specs.Counts.{Counts};
 ghost use Rattle.lay.specs.Bytes.{put};
 ghost use Rattle.model.specs.Frame.{frameWords};
-ghost use Rattle.model.specs.Stored.{parametersIn, sampleCountIn};
+ghost use Rattle.model.specs.Stored.{parametersIn, sampleCountIn, nameIn};
 ghost use Rattle.model.specs.View.{view};
 ghost use Rattle.rules.specs.Ruled.{RuledBy, BasesOf};
+ghost use Rattle.listed.specs.Lines.{rowText};
 ghost use Rattle.listed.specs.Listing.{headingText, sampleRow, rowMost, parameterRows, rowsMost, refusedText, fitNumber, wordsOf};
 
 // Enough for any row beside its name, any row, and any parameter's rows.
@@ -62,7 +63,36 @@ pub fn fit_number(fit: Fit) -> u32
     }
 }
 
-// The row of sample j of parameter i, both counted from 0, at o.
+// The row of what was read of sample j of parameter i, both counted from 0, at o.
+fn put_read(
+    t: &[u8],
+    opened: Opened,
+    i: usize,
+    j: usize,
+    raw: u32,
+    width: u32,
+    value: i64,
+    out: &mut [u8],
+    o: usize,
+) -> usize
+    requires { ⌜ RuledBy (now t) opened ⌝ }
+    requires { ⌜ i < parametersIn (now t) ⌝ }
+    requires { ⌜ j < sampleCountIn (now t) i ⌝ }
+    requires { ⌜ o + rowMost ≤ length (now out) ⌝ }
+    ensures { λ r. ⌜ (r ≡ o + length (rowText (nameIn (now (t .entry)) i) (j + 1) width raw value)) × (now (out .exit) ≡ put (now (out .entry)) o (rowText (nameIn (now (t .entry)) i) (j + 1) width raw value)) ⌝ }
+{
+    put_row(
+        out,
+        o,
+        name_in(t, opened, i),
+        j as u64 + 1,
+        width as u64,
+        raw as u64,
+        value,
+    )
+}
+
+// The row of that sample, whether its copies agree or not.
 pub fn put_sample(
     t: &[u8],
     opened: Opened,
@@ -82,15 +112,12 @@ pub fn put_sample(
     ensures { λ r. ⌜ (r ≡ o + length (sampleRow (view (now (t .entry))) (now (words .entry)) i j)) × (now (out .exit) ≡ put (now (out .entry)) o (sampleRow (view (now (t .entry))) (now (words .entry)) i j)) ⌝ }
 {
     match sample_in(t, opened, words, i, j, before) {
-        Reading::Sample { raw, width, value } => put_row(
-            out,
-            o,
-            name_in(t, opened, i),
-            j as u64 + 1,
-            width as u64,
-            raw as u64,
-            value,
-        ),
+        Reading::Sample { raw, width, value } => {
+            put_read(t, opened, i, j, raw, width, value, out, o)
+        }
+        Reading::OverlapDiffers { raw, width, value } => {
+            put_read(t, opened, i, j, raw, width, value, out, o)
+        }
         Reading::Refused(_) => o,
     }
 }

@@ -49,7 +49,7 @@ saidSubframe p =
     }
 
 abbrev pub saidComponent : Part → Component
-saidComponent p = record { subframe = p .subframe; word = p .word; low = p .low; high = p .high }
+saidComponent p = record { subframe = p .subframe; word = p .word; low = p .low; high = p .high; overlap = p .overlap }
 
 unfoldable pub parameterBy : Described → List ℕ
 parameterBy d =

@@ -126,4 +126,6 @@ pub fn put_component(out: &mut [u8], start: usize, i: usize, p: Part)
     put_item(out, o, s.word, p.word as usize);
     put_item(out, o, s.low, p.low as usize);
     put_item(out, o, s.high, p.high as usize);
+    put_item(out, o, s.overlap, p.overlap as usize);
+    put_item(out, o, s.zero, 0);
 }

@@ -4,18 +4,24 @@ use mathlib.Core.Bool.{Bool, true, false, true≢false}
 use mathlib.Core.List.{List}
 use Prim.Native.Nat.{ℕ, _≤_, _<_}
 use native.Mathlib.Omega.{arith}
+use Rattle.lay.specs.Below.{every}
+use Rattle.lay.specs.Bytes.{numAt}
+use Rattle.lay.specs.Slots.{itemAt}
+use Rattle.lay.specs.Layout.{itemIn}
 use Rattle.lay.proofs.Below.{length-tab, getD-tab, tab-same}
 use Rattle.lay.proofs.Tests.{rule, same-tests}
 use Rattle.model.specs.Margin.{Known, marginAs}
 use Rattle.model.specs.Content.{Content, noSubframe}
-use Rattle.model.specs.Forms.{rows, row, limits1, limitsOf, formIn, limitsIn}
+use Rattle.model.specs.Forms.{rows, row, limits1, layoutOf, limitsOf, formIn, layoutIn, limitsIn}
+use Rattle.model.specs.Items.{componentPart, zeroByte}
 use Rattle.model.specs.Limits.{Limits}
 use Rattle.model.specs.Lawful.{lawful}
 use Rattle.model.specs.Meaning.{MarginLaw, SubframeLaw}
 use Rattle.model.specs.Stored.{subframesIn, leadingIn, trailingIn}
 use Rattle.model.specs.View.{subframeAt, view}
-use Rattle.model.specs.Accepts.{accepts}
+use Rattle.model.specs.Accepts.{zeroBytesOk, accepts}
 use Rattle.model.specs.FormOne.{baseSubframeAt, baseView, baseAccepts}
+use Rattle.model.proofs.Laying.{zeros-made}
 use Rattle.model.proofs.Margins.{margin-known, margin-unknown}
 use Rattle.model.proofs.Meanings.{lawful-law}
 
@@ -25,6 +31,10 @@ said-known n h = margin-known n (λ e. true≢false (sym (subst (MarginLaw limit
 
 number-known : (n : ℕ) → n ≤ limits1 .margin → marginAs n ≡ Known n
 number-known n h = margin-known n (λ e. let w : ⊥ = omega (arith, h, e) in w)
+
+numAt-none : (b : List ℕ) (o : ℕ) → numAt 0 b o ≡ 0
+unfolding numAt
+numAt-none b o = refl
 
 module _ (b : List ℕ) where
   same-subframe : (i : ℕ) → marginAs (leadingIn b i) ≡ Known (leadingIn b i) → marginAs (trailingIn b i) ≡ Known (trailingIn b i) → subframeAt b i ≡ baseSubframeAt b i
@@ -61,18 +71,22 @@ module _ (b : List ℕ) where
     unfolding limitsIn row rows
     limits-one = ap limitsOf one
 
+    zeros-one : zeroBytesOk b ≡ true
+    unfolding itemIn itemAt layoutIn row rows
+    zeros-one = zeros-made b (λ k l. ap (λ (f : ℕ). itemIn (layoutOf f) b componentPart k zeroByte) one ∙ numAt-none b _)
+
     lawful-same : lawful (limitsIn b) (view b) ≡ lawful limits1 (baseView b)
     lawful-same =
         rw limits-one
         (same-tests _ _ (λ h. sym (ap (lawful limits1) (law-view h)) ∙ h) (λ h. ap (lawful limits1) (base-law-view h) ∙ h))
 
     pub base-accepts : accepts b ≡ baseAccepts b
-    unfolding accepts baseAccepts
-    base-accepts = rw lawful-same refl
+    unfolding accepts baseAccepts every
+    base-accepts = rw (lawful-same, zeros-one) refl
 
     pub base-view : accepts b ≡ true → view b ≡ baseView b
     unfolding accepts
-    base-view h = law-view (subst (λ (m : Limits). lawful m (view b) ≡ true) limits-one (rule _ h 3))
+    base-view h = law-view (subst (λ (m : Limits). lawful m (view b) ≡ true) limits-one (rule _ h 4))
 
     -- so whatever a call answers by the check and by what the table says, asking nothing of what is no table, it answered before
     pub base-kept : {A : Type 0} (F : Bool → Content → A) → ((c d : Content) → F false c ≡ F false d) → F (accepts b) (view b) ≡ F (baseAccepts b) (baseView b)

@@ -77,12 +77,13 @@ within-law m n h =
       samples = leb-true _ _ (rule _ h 7);
       componentsEach = leb-true _ _ (rule _ h 8);
       components = leb-true _ _ (rule _ h 9);
-      width = leb-true _ _ (rule _ h 10);
-      text = leb-true _ _ (rule _ h 11);
-      time = leb-true _ _ (rule _ h 12);
-      denominator = leb-true _ _ (rule _ h 13);
-      seconds = leb-true _ _ (rule _ h 14);
-      value = leb-true _ _ (rule _ h 15);
+      overlap = leb-true _ _ (rule _ h 10);
+      width = leb-true _ _ (rule _ h 11);
+      text = leb-true _ _ (rule _ h 12);
+      time = leb-true _ _ (rule _ h 13);
+      denominator = leb-true _ _ (rule _ h 14);
+      seconds = leb-true _ _ (rule _ h 15);
+      value = leb-true _ _ (rule _ h 16);
     }
 
 sound-law : (f : ℕ) (R : Row) → sound f R ≡ true → Sound f (R .layout) (R .limits)

@@ -74,9 +74,9 @@ component1 = slot item.home 2 ∷ slot item.word 2 ∷ slot item.low 1 ∷ slot 
 -- "S 1 to 32; bits per word 1 to 16; words 1 to 1,024; leading and trailing 0 to 4,095; 512 parameters; 64 samples each,
 -- 4,096 in all; 8 components a sample, 4,096 in all; width 32; .. identifier value 4,294,967,295"; text "64 for name,
 -- mnemonic and identification"; "time at most 999,999,999"; "from 1 to 1,000,000 below, and less than 1,000,000". With or
--- without unknown margins
-abbrev pub limitsWith : Bool → Limits
-limitsWith blank =
+-- without unknown margins, and with so many overlap bits
+abbrev pub limitsWith : Bool → ℕ → Limits
+limitsWith blank overlap =
     record {
       subframes = 32;
       bits = 16;
@@ -88,6 +88,7 @@ limitsWith blank =
       samples = 4096;
       componentsEach = 8;
       components = 4096;
+      overlap = overlap;
       width = 32;
       text = 64;
       time = 999999999;
@@ -96,9 +97,9 @@ limitsWith blank =
       value = 4294967295;
     }
 
--- no margin is unknown
+-- no margin is unknown, and no bits overlap
 abbrev pub limits1 : Limits
-limits1 = limitsWith false
+limits1 = limitsWith false 0
 
 abbrev pub form1 : Row
 form1 =
@@ -111,19 +112,43 @@ form1 =
 
 -- 02, request 2: "Blank is now stored as 65,535, in tables of form 2, and may stand in either margin."
 abbrev pub limits2 : Limits
-limits2 = limitsWith true
+limits2 = limitsWith true 0
 
 abbrev pub form2 : Row
 form2 = record { layout = form1 .layout; limits = limits2 }
 
+-- ---- form 3: form 2 but for the overlap
+
+-- 02, request 3: "The component entry gains an overlap byte and a zero byte (form 3)."
+abbrev pub component3 : List Slot
+component3 =
+    slot item.home 2
+    ∷ slot item.word 2
+    ∷ slot item.low 1
+    ∷ slot item.high 1
+    ∷ slot item.overlap 1
+    ∷ slot item.zeroByte 1
+    ∷ []
+
+-- fewer bits than a word has
+abbrev pub limits3 : Limits
+limits3 = limitsWith true 15
+
+abbrev pub form3 : Row
+form3 =
+    record {
+      layout = record { header = header1; parts = subframe1 ∷ parameter1 ∷ sample1 ∷ component3 ∷ [] };
+      limits = limits3;
+    }
+
 -- ---- all forms, from form 1 on
 
 unfoldable pub rows : List Row
-rows = form1 ∷ form2 ∷ []
+rows = form1 ∷ form2 ∷ form3 ∷ []
 
 -- the last row: new tables are written in its form
 abbrev pub newestRow : Row
-newestRow = form2
+newestRow = form3
 
 unfoldable pub newest : ℕ
 newest = length rows

@@ -106,7 +106,7 @@ firstComponent = 1
 abbrev pub componentCount : ℕ
 componentCount = 2
 
--- ---- a component's: the subframe that it names, its word, its low and its high bit
+-- ---- a component's: the subframe that it names, its word, its low and its high bit, its overlap, and a byte that must be 0
 
 abbrev pub home : ℕ
 home = 0
@@ -120,6 +120,12 @@ low = 2
 abbrev pub high : ℕ
 high = 3
 
+abbrev pub overlap : ℕ
+overlap = 4
+
+abbrev pub zeroByte : ℕ
+zeroByte = 5
+
 -- how many items an entry of part p has
 abbrev pub entryItems : ℕ → ℕ
-entryItems p = getD (6 ∷ 8 ∷ 3 ∷ 4 ∷ []) p 0
+entryItems p = getD (6 ∷ 8 ∷ 3 ∷ 6 ∷ []) p 0

@@ -59,7 +59,7 @@ entryMost m p =
     ((m .bits ∷ m .words ∷ marginMost m ∷ marginMost m ∷ m .seconds * m .denominator ∷ m .denominator ∷ [])
     ∷ (m .text ∷ m .text ∷ m .text ∷ 3 ∷ mostText m ∷ m .samples ∷ m .samplesEach ∷ m .value ∷ [])
     ∷ (m .time ∷ m .components ∷ m .componentsEach ∷ [])
-    ∷ (m .subframes ∷ m .words ∷ m .bits ∷ m .bits ∷ [])
+    ∷ (m .subframes ∷ m .words ∷ m .bits ∷ m .bits ∷ m .overlap ∷ 0 ∷ [])
     ∷ [])
     p
     []
@@ -123,6 +123,7 @@ withinRow m n =
     ∷ leb (m .samples) (n .samples)
     ∷ leb (m .componentsEach) (n .componentsEach)
     ∷ leb (m .components) (n .components)
+    ∷ leb (m .overlap) (n .overlap)
     ∷ leb (m .width) (n .width)
     ∷ leb (m .text) (n .text)
     ∷ leb (m .time) (n .time)
@@ -159,6 +160,7 @@ pub record Within (m n : Limits) : Type 0 where
   pub samples : m .samples ≤ n .samples
   pub componentsEach : m .componentsEach ≤ n .componentsEach
   pub components : m .components ≤ n .components
+  pub overlap : m .overlap ≤ n .overlap
   pub width : m .width ≤ n .width
   pub text : m .text ≤ n .text
   pub time : m .time ≤ n .time

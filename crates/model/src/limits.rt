@@ -21,6 +21,9 @@ pub const COMPONENTS_EACH: usize = 8;
 
 pub const COMPONENTS: usize = 4096;
 
+// Of a component: fewer bits than a word has.
+pub const OVERLAP: usize = 15;
+
 // Of a sample, in bits.
 pub const WIDTH: usize = 32;
 

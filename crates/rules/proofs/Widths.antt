@@ -9,7 +9,7 @@ use Rattle.sample.specs.Joining.{width}
 use Rattle.model.specs.Forms.{sheetLimits, limitsIn}
 use Rattle.model.specs.Sound.{Within}
 use Rattle.model.specs.Samples.{piece, widthOf}
-use Rattle.model.specs.Stored.{firstComponentIn, componentCountIn, homeIn, lowIn, highIn, wordIn}
+use Rattle.model.specs.Stored.{firstComponentIn, componentCountIn, homeIn, lowIn, highIn, overlapIn, wordIn}
 use Rattle.model.specs.View.{subframeAt, componentAt, sampleAt}
 use Rattle.model.specs.Meaning.{ComponentLaw, SampleLaw}
 use Rattle.model.proofs.Meanings.{sample-law, sample-made}
@@ -17,7 +17,7 @@ use Rattle.model.proofs.Pieces.{width-some}
 use Rattle.model.proofs.Views.{subframes-view}
 use Rattle.rules.specs.Ruled.{subframesOf, SubframesLaw, componentsOk, componentsWidth, lawfulWidth}
 use Rattle.rules.proofs.Homes.{home-words, home-bits}
-use Rattle.rules.proofs.Samplings.{left, left-next, left-none, stored, passes}
+use Rattle.rules.proofs.Samplings.{left, left-next, left-none, passes}
 
 -- ---- one component, by limits that are not above the newest form's
 
@@ -44,11 +44,15 @@ module _ (b : List ℕ) (f : SubframesLaw b) (k : ℕ) (r : ComponentLaw (subfra
   unfolding componentAt
   low-some = (r .someBit, r .rising)
 
+  pub overlap-fewer : overlapIn b k < highIn b k + 1 - lowIn b k
+  unfolding componentAt
+  overlap-fewer = r .lapped
+
 -- ---- the components' width
 
 module _ (b : List ℕ) (j : ℕ) where
   -- the width of what is left, component after component
-  pub left-width : (k : ℕ) → k < componentCountIn b j → width (left b j k) ≡ highIn b (firstComponentIn b j + k) + 1 - lowIn b (firstComponentIn b j + k) + width (left b j (k + 1))
+  pub left-width : (k : ℕ) → k < componentCountIn b j → width (left b j k) ≡ highIn b (firstComponentIn b j + k) - overlapIn b (firstComponentIn b j + k) + 1 - lowIn b (firstComponentIn b j + k) + width (left b j (k + 1))
   unfolding width piece componentAt
   left-width k l = ap width (left-next b j k l)
 
@@ -86,6 +90,6 @@ module _ (b : List ℕ) (j : ℕ) where
   -- a lawful sample's components have some width
   pub some-width : Within (limitsIn b) sheetLimits → SampleLaw (limitsIn b) (subframesOf b) (sampleAt b j) → componentsWidth b j ≡ 0 → ⊥
   some-width w r e =
-      let h = components-all (passes b j (stored b j w r)) in
+      let h = components-all (passes b j w r) in
       let s = width-some (subframesOf b) (sampleAt b j) (r .each) (r .some) in
       omega (arith, h, s, e)

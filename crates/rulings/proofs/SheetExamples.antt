@@ -1,5 +1,5 @@
 -- Sheets and their rulings, one list under one theorem, by computation: the wall sheet with a line or two changed. The
--- rulings are those of 01, its "More" and its rules, under its own numbers. Assumes nothing.
+-- rulings are those of 01, its "More" and its rules, and of 02's request 3, under their own numbers. Assumes nothing.
 use mathlib.Core.Path.{_≡_, refl, ap, _∙_}
 use mathlib.Core.Bool.{true, false}
 use mathlib.Core.List.{List, [], _∷_, _++_}
@@ -26,7 +26,7 @@ use Rattle.lines.specs.Order.{lineJudged}
 use Rattle.spell.specs.Digits.{allDigits, digitsUpTo, placeOf, places, number, isMarked}
 use Rattle.spell.specs.Texts.{textJudged, versionJudged, emptyJudged}
 use Rattle.spell.specs.Truths.{saysTrue, saysFalse, truthJudged, truthOf, truthOrEmptyJudged}
-use Rattle.spell.specs.Integers.{integerJudged, integerOf, declaredJudged, declaredOf, overlapJudged, marginOf, labelJudged, labelOf}
+use Rattle.spell.specs.Integers.{integerJudged, integerOf, declaredJudged, declaredOf, marginOf, labelJudged, labelOf}
 use Rattle.spell.specs.Decimals.{millionths, decimalJudged, decimalOf, delayJudged}
 use Rattle.spell.specs.BitRanges.{lowBit, highBit, bitsJudged, bitsOf, componentBitsJudged, componentBitsOf, sourceBitsJudged}
 use Rattle.spell.specs.Durations.{isFraction, isSeconds, fractionOf, badFraction, topOf, bottomOf, secondsJudged, secondsOf}
@@ -34,9 +34,9 @@ use Rattle.lineforms.specs.Forms.{wordForm, countForm, eitherForm, openingForm,
 use Rattle.lineforms.specs.LineFields.{pairIndex, declaredFor, rangeJudged}
 use Rattle.model.specs.Samples.{wordCounts, piece, pieces, widthOf}
 use Rattle.model.specs.Identifiers.{namedApart, identifierOk, identifiedApart, identifies, taken}
-use Rattle.model.specs.Wall.{wall, sync}
+use Rattle.model.specs.Wall.{wall, sync, pitch}
 use Rattle.gather.specs.Book.{spread, samplesOf, componentsOf, allComponentsOf, wordsOf, bitsOf as bitsOfPairs}
-use Rattle.gather.specs.Tests.{roomForParameter, roomForSample, roomForComponent, spots, joinedTest, widthTest, apartFrom}
+use Rattle.gather.specs.Tests.{roomForParameter, roomForSample, roomForComponent, spots, given, lastOverlap, joinedTest, unlikeFirst, widthTest, apartFrom}
 use Rattle.gather.specs.WallSheet.{wallSheet}
 use Rattle.gather.specs.Ruling.{Ruling, Accepted, Refused, firstBad, identified, run, judgeOf}
 use Rattle.gather.proofs.Stages.{firstLines}
@@ -113,11 +113,38 @@ syncAtTwelve =
       signed = false;
       identifier = true;
       value = 1;
-      samples = record { time = 0; components = record { subframe = 1; word = 1; low = 12; high = 12 } ∷ [] } ∷ [];
+      samples = record { time = 0; components = record { subframe = 1; word = 1; low = 12; high = 12; overlap = 0 } ∷ [] } ∷ [];
     }
 
 abbrev twelveContent : Content
 twelveContent = record { sequential = true; subframes = wall .subframes; parameters = syncAtTwelve ∷ [] }
+
+-- the wall with Pitch as the section has its example: bits 1-12 of a sample of 18 in one word, bits 12-18 in another
+abbrev lappedLines : List (List ℕ)
+lappedLines = changed 4 pairLine (changed 17 "1,2,1,1-12" (changed 18 "1,4,0,1-7" wallLines))
+
+abbrev lappedPitch : Parameter
+lappedPitch =
+    record {
+      name = pitch .name;
+      mnemonic = pitch .mnemonic;
+      identification = [];
+      signed = true;
+      identifier = false;
+      value = 0;
+      samples =
+          record {
+            time = 500000;
+            components =
+                record { subframe = 1; word = 2; low = 1; high = 12; overlap = 1 }
+                ∷ record { subframe = 1; word = 4; low = 1; high = 7; overlap = 0 }
+                ∷ [];
+          }
+          ∷ [];
+    }
+
+abbrev lappedContent : Content
+lappedContent = record { sequential = true; subframes = wall .subframes; parameters = sync ∷ lappedPitch ∷ [] }
 
 -- what 01 says of a sheet: the Content it is taken for, or the refusal's number and its line
 pub data Told : Type 0 where
@@ -182,10 +209,10 @@ orders =
     ∷ rules (changing 8 ",") (refuses 5 8)
     -- two fields after the time
     ∷ rules (changing 9 ",") (refuses 10 9)
-    -- 1,x,0,0 and 9,x,0,1 and 1,1,1,0
+    -- 1,x,0,0 and 9,x,0,1; and 1,1,1,0, where 01's 10 for the overlap went with 02's request 3
     ∷ rules (changing 7 "1,x,0,0") (refuses 6 7)
     ∷ rules (changing 7 "9,x,0,1") (refuses 13 7)
-    ∷ rules (changing 7 "1,1,1,0") (refuses 10 7)
+    ∷ rules (changing 7 "1,1,1,0") (refuses 11 7)
     -- two faults in one field: 7 before 6, 6 before 9, 6 before 11, 11 before 13
     ∷ rules (changing 6 "A name of sixty-five bytes with a tab inside is longer than the\t.,,,True,,,") (refuses 7 6)
     ∷ rules (changing 2 "2.\t0,A,TypeX,,,001,,,True,,,1,,") (refuses 6 2)
@@ -212,6 +239,20 @@ samples =
     ∷ rules (sheetOf (added 8 "1,2,0,1-12" (added 8 "1,3,0,1-12" wallLines))) (refuses 14 9)
     -- a second sample of one bit, after one of six
     ∷ rules (sheetOf (added 20 "1,3,0,1" (added 20 "0" wallLines))) (refuses 14 21)
+    ∷ []
+
+-- overlap bits, and their 14
+abbrev pub overlaps : List Case
+overlaps =
+    -- one bit of twelve and seven
+    rules (sheetOf lappedLines) (takes lappedContent)
+    -- 4 of 1-4
+    ∷ rules (changing 7 "1,1,4,1-4") (refuses 14 7)
+    -- 3 of 1-4, and two bits next
+    ∷ rules (sheetOf (changed 7 "1,1,3,1-4" (added 8 "1,2,0,1-2" wallLines))) (refuses 14 8)
+    -- of the last component of two, and of one alone
+    ∷ rules (sheetOf (changed 7 "1,1,0,1-4" (added 8 "1,2,1,1-4" wallLines))) (refuses 14 9)
+    ∷ rules (changing 7 "1,1,1,1-12") (refuses 14 8)
     ∷ []
 
 -- 15 and 16
@@ -243,7 +284,7 @@ durations =
     ∷ []
 
 abbrev pub cases : List Case
-cases = ends ++ (orders ++ (samples ++ (identifiers ++ durations)))
+cases = ends ++ (orders ++ (samples ++ (overlaps ++ (identifiers ++ durations))))
 
 joined-again : sheetOf wallLines ≡ wallSheet
 unfolding linesOf
@@ -257,24 +298,28 @@ both-hold [] ys h k = k
 both-hold (x ∷ xs) ys h k = (h .0, both-hold xs ys (h .1) k)
 
 ends-hold : AllHold ends
-unfolding same every gcdIn gcd lowestTerms clash clashAny twice width before position first trimStart trimEnd trim indexOf countOf holds upTo past blankLine fieldCount pieceOf fieldOf keywordOf allClean linesOf lineJudged allDigits digitsUpTo placeOf places number isMarked textJudged versionJudged emptyJudged saysTrue saysFalse truthJudged truthOf truthOrEmptyJudged integerJudged integerOf declaredJudged declaredOf overlapJudged marginOf marginAs labelJudged labelOf millionths decimalJudged decimalOf delayJudged lowBit highBit bitsJudged bitsOf componentBitsJudged componentBitsOf sourceBitsJudged isFraction isSeconds fractionOf badFraction topOf bottomOf secondsJudged secondsOf wordForm countForm eitherForm openingForm afterSampleForm formOf pairIndex declaredFor rangeJudged wordCounts piece pieces widthOf namedApart identifierOk identifiedApart identifies taken spread samplesOf componentsOf allComponentsOf wordsOf bitsOfPairs roomForParameter roomForSample roomForComponent spots joinedTest widthTest apartFrom firstBad identified run judgeOf
+unfolding same every gcdIn gcd lowestTerms clash clashAny twice width before position first trimStart trimEnd trim indexOf countOf holds upTo past blankLine fieldCount pieceOf fieldOf keywordOf allClean linesOf lineJudged allDigits digitsUpTo placeOf places number isMarked textJudged versionJudged emptyJudged saysTrue saysFalse truthJudged truthOf truthOrEmptyJudged integerJudged integerOf declaredJudged declaredOf marginOf marginAs labelJudged labelOf millionths decimalJudged decimalOf delayJudged lowBit highBit bitsJudged bitsOf componentBitsJudged componentBitsOf sourceBitsJudged isFraction isSeconds fractionOf badFraction topOf bottomOf secondsJudged secondsOf wordForm countForm eitherForm openingForm afterSampleForm formOf pairIndex declaredFor rangeJudged wordCounts piece pieces widthOf namedApart identifierOk identifiedApart identifies taken spread samplesOf componentsOf allComponentsOf wordsOf bitsOfPairs roomForParameter roomForSample roomForComponent spots given lastOverlap joinedTest unlikeFirst widthTest apartFrom firstBad identified run judgeOf
 ends-hold = (joined-taken, (refl, (refl, (refl, (refl, (refl, (refl, (refl, (refl, (refl, (refl, tt)))))))))))
 
 orders-hold : AllHold orders
-unfolding same every gcdIn gcd lowestTerms clash clashAny twice width before position first trimStart trimEnd trim indexOf countOf holds upTo past blankLine fieldCount pieceOf fieldOf keywordOf allClean linesOf lineJudged allDigits digitsUpTo placeOf places number isMarked textJudged versionJudged emptyJudged saysTrue saysFalse truthJudged truthOf truthOrEmptyJudged integerJudged integerOf declaredJudged declaredOf overlapJudged marginOf marginAs labelJudged labelOf millionths decimalJudged decimalOf delayJudged lowBit highBit bitsJudged bitsOf componentBitsJudged componentBitsOf sourceBitsJudged isFraction isSeconds fractionOf badFraction topOf bottomOf secondsJudged secondsOf wordForm countForm eitherForm openingForm afterSampleForm formOf pairIndex declaredFor rangeJudged wordCounts piece pieces widthOf namedApart identifierOk identifiedApart identifies taken spread samplesOf componentsOf allComponentsOf wordsOf bitsOfPairs roomForParameter roomForSample roomForComponent spots joinedTest widthTest apartFrom firstBad identified run judgeOf
+unfolding same every gcdIn gcd lowestTerms clash clashAny twice width before position first trimStart trimEnd trim indexOf countOf holds upTo past blankLine fieldCount pieceOf fieldOf keywordOf allClean linesOf lineJudged allDigits digitsUpTo placeOf places number isMarked textJudged versionJudged emptyJudged saysTrue saysFalse truthJudged truthOf truthOrEmptyJudged integerJudged integerOf declaredJudged declaredOf marginOf marginAs labelJudged labelOf millionths decimalJudged decimalOf delayJudged lowBit highBit bitsJudged bitsOf componentBitsJudged componentBitsOf sourceBitsJudged isFraction isSeconds fractionOf badFraction topOf bottomOf secondsJudged secondsOf wordForm countForm eitherForm openingForm afterSampleForm formOf pairIndex declaredFor rangeJudged wordCounts piece pieces widthOf namedApart identifierOk identifiedApart identifies taken spread samplesOf componentsOf allComponentsOf wordsOf bitsOfPairs roomForParameter roomForSample roomForComponent spots given lastOverlap joinedTest unlikeFirst widthTest apartFrom firstBad identified run judgeOf
 orders-hold = (refl, (refl, (refl, (refl, (refl, (refl, (refl, (refl, (refl, (refl, (refl, (refl, (refl, (refl, (refl, (refl, tt))))))))))))))))
 
 samples-hold : AllHold samples
-unfolding same every gcdIn gcd lowestTerms clash clashAny twice width before position first trimStart trimEnd trim indexOf countOf holds upTo past blankLine fieldCount pieceOf fieldOf keywordOf allClean linesOf lineJudged allDigits digitsUpTo placeOf places number isMarked textJudged versionJudged emptyJudged saysTrue saysFalse truthJudged truthOf truthOrEmptyJudged integerJudged integerOf declaredJudged declaredOf overlapJudged marginOf marginAs labelJudged labelOf millionths decimalJudged decimalOf delayJudged lowBit highBit bitsJudged bitsOf componentBitsJudged componentBitsOf sourceBitsJudged isFraction isSeconds fractionOf badFraction topOf bottomOf secondsJudged secondsOf wordForm countForm eitherForm openingForm afterSampleForm formOf pairIndex declaredFor rangeJudged wordCounts piece pieces widthOf namedApart identifierOk identifiedApart identifies taken spread samplesOf componentsOf allComponentsOf wordsOf bitsOfPairs roomForParameter roomForSample roomForComponent spots joinedTest widthTest apartFrom firstBad identified run judgeOf
+unfolding same every gcdIn gcd lowestTerms clash clashAny twice width before position first trimStart trimEnd trim indexOf countOf holds upTo past blankLine fieldCount pieceOf fieldOf keywordOf allClean linesOf lineJudged allDigits digitsUpTo placeOf places number isMarked textJudged versionJudged emptyJudged saysTrue saysFalse truthJudged truthOf truthOrEmptyJudged integerJudged integerOf declaredJudged declaredOf marginOf marginAs labelJudged labelOf millionths decimalJudged decimalOf delayJudged lowBit highBit bitsJudged bitsOf componentBitsJudged componentBitsOf sourceBitsJudged isFraction isSeconds fractionOf badFraction topOf bottomOf secondsJudged secondsOf wordForm countForm eitherForm openingForm afterSampleForm formOf pairIndex declaredFor rangeJudged wordCounts piece pieces widthOf namedApart identifierOk identifiedApart identifies taken spread samplesOf componentsOf allComponentsOf wordsOf bitsOfPairs roomForParameter roomForSample roomForComponent spots given lastOverlap joinedTest unlikeFirst widthTest apartFrom firstBad identified run judgeOf
 samples-hold = (refl, (refl, (refl, (refl, (refl, (refl, (refl, (refl, (refl, (refl, tt))))))))))
 
+overlaps-hold : AllHold overlaps
+unfolding same every gcdIn gcd lowestTerms clash clashAny twice width before position first trimStart trimEnd trim indexOf countOf holds upTo past blankLine fieldCount pieceOf fieldOf keywordOf allClean linesOf lineJudged allDigits digitsUpTo placeOf places number isMarked textJudged versionJudged emptyJudged saysTrue saysFalse truthJudged truthOf truthOrEmptyJudged integerJudged integerOf declaredJudged declaredOf marginOf marginAs labelJudged labelOf millionths decimalJudged decimalOf delayJudged lowBit highBit bitsJudged bitsOf componentBitsJudged componentBitsOf sourceBitsJudged isFraction isSeconds fractionOf badFraction topOf bottomOf secondsJudged secondsOf wordForm countForm eitherForm openingForm afterSampleForm formOf pairIndex declaredFor rangeJudged wordCounts piece pieces widthOf namedApart identifierOk identifiedApart identifies taken spread samplesOf componentsOf allComponentsOf wordsOf bitsOfPairs roomForParameter roomForSample roomForComponent spots given lastOverlap joinedTest unlikeFirst widthTest apartFrom firstBad identified run judgeOf
+overlaps-hold = (refl, (refl, (refl, (refl, (refl, tt)))))
+
 identifiers-hold : AllHold identifiers
-unfolding same every gcdIn gcd lowestTerms clash clashAny twice width before position first trimStart trimEnd trim indexOf countOf holds upTo past blankLine fieldCount pieceOf fieldOf keywordOf allClean linesOf lineJudged allDigits digitsUpTo placeOf places number isMarked textJudged versionJudged emptyJudged saysTrue saysFalse truthJudged truthOf truthOrEmptyJudged integerJudged integerOf declaredJudged declaredOf overlapJudged marginOf marginAs labelJudged labelOf millionths decimalJudged decimalOf delayJudged lowBit highBit bitsJudged bitsOf componentBitsJudged componentBitsOf sourceBitsJudged isFraction isSeconds fractionOf badFraction topOf bottomOf secondsJudged secondsOf wordForm countForm eitherForm openingForm afterSampleForm formOf pairIndex declaredFor rangeJudged wordCounts piece pieces widthOf namedApart identifierOk identifiedApart identifies taken spread samplesOf componentsOf allComponentsOf wordsOf bitsOfPairs roomForParameter roomForSample roomForComponent spots joinedTest widthTest apartFrom firstBad identified run judgeOf
+unfolding same every gcdIn gcd lowestTerms clash clashAny twice width before position first trimStart trimEnd trim indexOf countOf holds upTo past blankLine fieldCount pieceOf fieldOf keywordOf allClean linesOf lineJudged allDigits digitsUpTo placeOf places number isMarked textJudged versionJudged emptyJudged saysTrue saysFalse truthJudged truthOf truthOrEmptyJudged integerJudged integerOf declaredJudged declaredOf marginOf marginAs labelJudged labelOf millionths decimalJudged decimalOf delayJudged lowBit highBit bitsJudged bitsOf componentBitsJudged componentBitsOf sourceBitsJudged isFraction isSeconds fractionOf badFraction topOf bottomOf secondsJudged secondsOf wordForm countForm eitherForm openingForm afterSampleForm formOf pairIndex declaredFor rangeJudged wordCounts piece pieces widthOf namedApart identifierOk identifiedApart identifies taken spread samplesOf componentsOf allComponentsOf wordsOf bitsOfPairs roomForParameter roomForSample roomForComponent spots given lastOverlap joinedTest unlikeFirst widthTest apartFrom firstBad identified run judgeOf
 identifiers-hold = (refl, (refl, (refl, (refl, (refl, (refl, (refl, tt)))))))
 
 durations-hold : AllHold durations
-unfolding same every gcdIn gcd lowestTerms clash clashAny twice width before position first trimStart trimEnd trim indexOf countOf holds upTo past blankLine fieldCount pieceOf fieldOf keywordOf allClean linesOf lineJudged allDigits digitsUpTo placeOf places number isMarked textJudged versionJudged emptyJudged saysTrue saysFalse truthJudged truthOf truthOrEmptyJudged integerJudged integerOf declaredJudged declaredOf overlapJudged marginOf marginAs labelJudged labelOf millionths decimalJudged decimalOf delayJudged lowBit highBit bitsJudged bitsOf componentBitsJudged componentBitsOf sourceBitsJudged isFraction isSeconds fractionOf badFraction topOf bottomOf secondsJudged secondsOf wordForm countForm eitherForm openingForm afterSampleForm formOf pairIndex declaredFor rangeJudged wordCounts piece pieces widthOf namedApart identifierOk identifiedApart identifies taken spread samplesOf componentsOf allComponentsOf wordsOf bitsOfPairs roomForParameter roomForSample roomForComponent spots joinedTest widthTest apartFrom firstBad identified run judgeOf
+unfolding same every gcdIn gcd lowestTerms clash clashAny twice width before position first trimStart trimEnd trim indexOf countOf holds upTo past blankLine fieldCount pieceOf fieldOf keywordOf allClean linesOf lineJudged allDigits digitsUpTo placeOf places number isMarked textJudged versionJudged emptyJudged saysTrue saysFalse truthJudged truthOf truthOrEmptyJudged integerJudged integerOf declaredJudged declaredOf marginOf marginAs labelJudged labelOf millionths decimalJudged decimalOf delayJudged lowBit highBit bitsJudged bitsOf componentBitsJudged componentBitsOf sourceBitsJudged isFraction isSeconds fractionOf badFraction topOf bottomOf secondsJudged secondsOf wordForm countForm eitherForm openingForm afterSampleForm formOf pairIndex declaredFor rangeJudged wordCounts piece pieces widthOf namedApart identifierOk identifiedApart identifies taken spread samplesOf componentsOf allComponentsOf wordsOf bitsOfPairs roomForParameter roomForSample roomForComponent spots given lastOverlap joinedTest unlikeFirst widthTest apartFrom firstBad identified run judgeOf
 durations-hold = (refl, (refl, (refl, tt)))
 
 pub examples : AllHold cases
-examples = both-hold ends (orders ++ (samples ++ (identifiers ++ durations))) ends-hold (both-hold orders (samples ++ (identifiers ++ durations)) orders-hold (both-hold samples (identifiers ++ durations) samples-hold (both-hold identifiers durations identifiers-hold durations-hold)))
+examples = both-hold ends (orders ++ (samples ++ (overlaps ++ (identifiers ++ durations)))) ends-hold (both-hold orders (samples ++ (overlaps ++ (identifiers ++ durations))) orders-hold (both-hold samples (overlaps ++ (identifiers ++ durations)) samples-hold (both-hold overlaps (identifiers ++ durations) overlaps-hold (both-hold identifiers durations identifiers-hold durations-hold))))

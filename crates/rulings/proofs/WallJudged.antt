@@ -17,7 +17,7 @@ use Rattle.lines.specs.Order.{lineJudged}
 use Rattle.spell.specs.Digits.{allDigits, digitsUpTo, placeOf, places, number, isMarked}
 use Rattle.spell.specs.Texts.{textJudged, versionJudged, emptyJudged}
 use Rattle.spell.specs.Truths.{saysTrue, saysFalse, truthJudged, truthOf, truthOrEmptyJudged}
-use Rattle.spell.specs.Integers.{integerJudged, integerOf, declaredJudged, declaredOf, overlapJudged, marginOf, labelJudged, labelOf}
+use Rattle.spell.specs.Integers.{integerJudged, integerOf, declaredJudged, declaredOf, marginOf, labelJudged, labelOf}
 use Rattle.spell.specs.Decimals.{millionths, decimalJudged, decimalOf, delayJudged}
 use Rattle.spell.specs.BitRanges.{lowBit, highBit, bitsJudged, bitsOf, componentBitsJudged, componentBitsOf, sourceBitsJudged}
 use Rattle.spell.specs.Durations.{isFraction, isSeconds, fractionOf, badFraction, topOf, bottomOf, secondsJudged, secondsOf}
@@ -28,10 +28,10 @@ use Rattle.model.specs.Samples.{wordCounts, piece, pieces, widthOf}
 use Rattle.model.specs.Identifiers.{namedApart, identifierOk, identifiedApart, identifies, taken}
 use Rattle.model.specs.Wall.{wall}
 use Rattle.gather.specs.Book.{spread, samplesOf, componentsOf, allComponentsOf, wordsOf, bitsOf as bitsOfPairs}
-use Rattle.gather.specs.Tests.{roomForParameter, roomForSample, roomForComponent, spots, joinedTest, widthTest, apartFrom}
+use Rattle.gather.specs.Tests.{roomForParameter, roomForSample, roomForComponent, spots, given, lastOverlap, joinedTest, unlikeFirst, widthTest, apartFrom}
 use Rattle.gather.specs.WallSheet.{wallSheet}
 use Rattle.gather.specs.Ruling.{Accepted, firstBad, identified, run, judgeOf}
 
 pub wall-accepted : judgeOf wallSheet ≡ Accepted wall
-unfolding same every gcdIn gcd lowestTerms clash clashAny twice width before position first trimStart trimEnd trim indexOf countOf holds upTo past blankLine fieldCount pieceOf fieldOf keywordOf allClean linesOf lineJudged allDigits digitsUpTo placeOf places number isMarked textJudged versionJudged emptyJudged saysTrue saysFalse truthJudged truthOf truthOrEmptyJudged integerJudged integerOf declaredJudged declaredOf overlapJudged marginOf marginAs labelJudged labelOf millionths decimalJudged decimalOf delayJudged lowBit highBit bitsJudged bitsOf componentBitsJudged componentBitsOf sourceBitsJudged isFraction isSeconds fractionOf badFraction topOf bottomOf secondsJudged secondsOf wordForm countForm eitherForm openingForm afterSampleForm formOf pairIndex declaredFor rangeJudged wordCounts piece pieces widthOf namedApart identifierOk identifiedApart identifies taken spread samplesOf componentsOf allComponentsOf wordsOf bitsOfPairs roomForParameter roomForSample roomForComponent spots joinedTest widthTest apartFrom firstBad identified run judgeOf
+unfolding same every gcdIn gcd lowestTerms clash clashAny twice width before position first trimStart trimEnd trim indexOf countOf holds upTo past blankLine fieldCount pieceOf fieldOf keywordOf allClean linesOf lineJudged allDigits digitsUpTo placeOf places number isMarked textJudged versionJudged emptyJudged saysTrue saysFalse truthJudged truthOf truthOrEmptyJudged integerJudged integerOf declaredJudged declaredOf marginOf marginAs labelJudged labelOf millionths decimalJudged decimalOf delayJudged lowBit highBit bitsJudged bitsOf componentBitsJudged componentBitsOf sourceBitsJudged isFraction isSeconds fractionOf badFraction topOf bottomOf secondsJudged secondsOf wordForm countForm eitherForm openingForm afterSampleForm formOf pairIndex declaredFor rangeJudged wordCounts piece pieces widthOf namedApart identifierOk identifiedApart identifies taken spread samplesOf componentsOf allComponentsOf wordsOf bitsOfPairs roomForParameter roomForSample roomForComponent spots given lastOverlap joinedTest unlikeFirst widthTest apartFrom firstBad identified run judgeOf
 wall-accepted = refl

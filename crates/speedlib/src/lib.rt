@@ -38,6 +38,11 @@ fn value_in(
             width: _,
             value,
         } => value,
+        Reading::OverlapDiffers {
+            raw: _,
+            width: _,
+            value,
+        } => value,
         Reading::Refused(_) => 0,
     }
 }

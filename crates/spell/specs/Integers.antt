@@ -1,13 +1,13 @@
 -- "Integer: 1 to 6 digits; an identifier's value 1 to 10." "Label: 1 to 3 octal digits." "For a number or Boolean: 8, 6, 11,
--- 13; non-zero overlap is 10 after 6. In a component line 11 is only for 0 or a above b; all that is too high is 13."
+-- 13"; an overlap's 10 is gone (02, request 3). "In a component line 11 is only for 0 or a above b; all that is too high is 13."
 use Prim.Native.Nat.{ℕ}
 use mathlib.Core.List.{List, [], _∷_}
 use mathlib.Core.Bool.{cond, not, _&&_}
-use lib.Dec.{leb, ltb, eqb}
+use lib.Dec.{leb, ltb}
 use Rattle.text.specs.Blanks.{isEmpty}
 use Rattle.text.specs.Refusals.{when, first}
 use Rattle.text.specs.declared.refusal.Judged.{Judged}
-use Rattle.text.specs.declared.refusal.Refusal.the-variants.{FieldEmpty, Misspelt, OutsideLimit, BeyondDeclared, NotCarried}
+use Rattle.text.specs.declared.refusal.Refusal.the-variants.{FieldEmpty, Misspelt, OutsideLimit, BeyondDeclared}
 use Rattle.spell.specs.Digits.{digitsUpTo, number}
 use Rattle.spell.specs.Answers.{saysNumber}
 use Rattle.spell.specs.declared.answers.Number.{Number}
@@ -35,9 +35,6 @@ declaredJudged count f = first (integerJudged 6 1 mostOfSix f ∷ when (ltb coun
 
 unfoldable pub declaredOf : ℕ → List ℕ → Number
 declaredOf count f = saysNumber (declaredJudged count f) (number 10 f)
-
-unfoldable pub overlapJudged : List ℕ → Judged
-overlapJudged f = first (integerJudged 6 0 mostOfSix f ∷ when (not (eqb (number 10 f) 0)) NotCarried ∷ [])
 
 -- "Leading and trailing may be empty"; an empty one says the number that stands for unknown
 unfoldable pub marginOf : ℕ → ℕ → List ℕ → Number

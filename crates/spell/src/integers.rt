@@ -1,13 +1,12 @@
-// Integers within limits, numbers that count declared things, the overlap, and octal labels.
+// Integers within limits, numbers that count declared things, and octal labels.
 use crate::answers::Number;
 use crate::digits::digits_up_to;
 use crate::digits::number;
 use crate::digits::value;
-use text::refusal::Judged;
 use text::refusal::Refusal;
 ghost use mathlib.Core.Path.{_≡_};
 ghost use Prim.Native.Nat.{_≤_};
-ghost use Rattle.spell.specs.Integers.{integerOf, declaredOf, overlapJudged, marginOf, labelOf};
+ghost use Rattle.spell.specs.Integers.{integerOf, declaredOf, marginOf, labelOf};
 
 // 8, 6, 11: 1 to n digits, from least to most.
 pub fn integer(f: &[u8], n: usize, least: u64, most: u64) -> Number
@@ -41,21 +40,6 @@ pub fn declared(f: &[u8], count: u64) -> Number
                 return Number::Refused(Refusal::BeyondDeclared);
             }
             Number::Value(v)
-        }
-    }
-}
-
-// 8, 6, 10 unless it is 0.
-pub fn overlap(f: &[u8]) -> Judged
-    ensures { λ r. ⌜ r ≡ overlapJudged (now (f .entry)) ⌝ }
-{
-    match integer(f, 6, 0, 999999) {
-        Number::Refused(r) => Judged::Refused(r),
-        Number::Value(v) => {
-            if v == 0 {
-                return Judged::Passes;
-            }
-            Judged::Refused(Refusal::NotCarried)
         }
     }
 }

@@ -19,7 +19,6 @@ use spell::integers::declared;
 use spell::integers::integer;
 use spell::integers::label;
 use spell::integers::margin;
-use spell::integers::overlap;
 use spell::ranges::component_bits;
 use spell::ranges::source_bits;
 use spell::seconds::seconds;
@@ -105,7 +104,7 @@ pub fn answer_text(kind: u64, f: &[u8]) {
         5 => number_text(integer(f, 10, 0, VALUE as u64)),
         6 => number_text(declared(f, 1)),
         7 => number_text(declared(f, 4)),
-        8 => judged_text(overlap(f)),
+        8 => number_text(integer(f, 6, 0, 999999)),
         9 => bits_text(component_bits(f, 12)),
         10 => judged_text(source_bits(f)),
         11 => number_text(label(f)),

@@ -73,6 +73,8 @@ componentShape L =
       word = placeOf (slotsOf L componentPart) item.word;
       low = placeOf (slotsOf L componentPart) item.low;
       high = placeOf (slotsOf L componentPart) item.high;
+      overlap = placeOf (slotsOf L componentPart) item.overlap;
+      zero = placeOf (slotsOf L componentPart) item.zeroByte;
     }
 
 abbrev pub boundsOf : Limits → Bounds
@@ -88,6 +90,7 @@ boundsOf m =
       samples = m .samples;
       componentsEach = m .componentsEach;
       components = m .components;
+      overlap = m .overlap;
       width = m .width;
       text = m .text;
       time = m .time;
@@ -110,6 +113,7 @@ limitsBy m =
       samples = m .samples;
       componentsEach = m .componentsEach;
       components = m .components;
+      overlap = m .overlap;
       width = m .width;
       text = m .text;
       time = m .time;

@@ -5,6 +5,7 @@ use model::limits::COMPONENTS;
 use model::limits::COMPONENTS_EACH;
 use model::limits::DENOMINATOR;
 use model::limits::MARGIN;
+use model::limits::OVERLAP;
 use model::limits::PARAMETERS;
 use model::limits::SAMPLES;
 use model::limits::SAMPLES_EACH;
@@ -16,8 +17,9 @@ use model::limits::VALUE;
 use model::limits::WIDTH;
 use model::limits::WORDS;
 ghost use mathlib.Core.Path.{_≡_};
-ghost use mathlib.Core.Bool.{true};
+ghost use mathlib.Core.Bool.{true, cond};
 ghost use Prim.Native.Nat.{_+_, _≤_};
+ghost use lib.Dec.{leb};
 ghost use lib.ListN.{length};
 ghost use Rattle.model.specs.Forms.{known, layoutOf, limitsOf, formAt, formWide, formIn};
 ghost use Rattle.stored.specs.Shapes.{headerShape, subframeShape, parameterShape, sampleShape, componentShape, boundsOf};
@@ -30,7 +32,7 @@ pub const FORM_WIDE: usize = 2;
 pub const FORM_ENDS: usize = 16;
 
 // New tables are written in this form.
-pub const NEWEST: usize = 2;
+pub const NEWEST: usize = 3;
 
 // The header's items but for the form: the total, flags, zero bytes, where the text begins; then of each part how many entries
 // it has, and where it begins.
@@ -85,6 +87,8 @@ pub struct ComponentShape {
     pub word: Place,
     pub low: Place,
     pub high: Place,
+    pub overlap: Place,
+    pub zero: Place,
 }
 
 // How much a form holds at most, and whether a margin may be unknown in it (blank).
@@ -99,6 +103,7 @@ pub struct Bounds {
     pub samples: usize,
     pub componentsEach: usize,
     pub components: usize,
+    pub overlap: usize,
     pub width: usize,
     pub text: usize,
     pub time: usize,
@@ -196,16 +201,38 @@ pub fn component_shape(f: usize) -> ComponentShape
     requires { ⌜ known f ≡ true ⌝ }
     ensures { λ r. ⌜ r ≡ componentShape (layoutOf f) ⌝ }
 {
+    if f < 3 {
+        return ComponentShape {
+            size: 6,
+            subframe: Place { at: 0, wide: 2 },
+            word: Place { at: 2, wide: 2 },
+            low: Place { at: 4, wide: 1 },
+            high: Place { at: 5, wide: 1 },
+            overlap: Place { at: 6, wide: 0 },
+            zero: Place { at: 6, wide: 0 },
+        };
+    }
     ComponentShape {
-        size: 6,
+        size: 8,
         subframe: Place { at: 0, wide: 2 },
         word: Place { at: 2, wide: 2 },
         low: Place { at: 4, wide: 1 },
         high: Place { at: 5, wide: 1 },
+        overlap: Place { at: 6, wide: 1 },
+        zero: Place { at: 7, wide: 1 },
     }
 }
 
-// All forms hold as much; form 1 has no way to say that a margin is unknown.
+fn most_overlap(f: usize) -> usize
+    ensures { λ r. ⌜ r ≡ cond (leb 3 f) 15 0 ⌝ }
+{
+    if f < 3 {
+        return 0;
+    }
+    OVERLAP
+}
+
+// All forms hold as much; form 1 has no way to say that a margin is unknown, and forms 1 and 2 none to say that bits overlap.
 pub fn bounds_of(f: usize) -> Bounds
     requires { ⌜ known f ≡ true ⌝ }
     ensures { λ r. ⌜ r ≡ boundsOf (limitsOf f) ⌝ }
@@ -221,6 +248,7 @@ pub fn bounds_of(f: usize) -> Bounds
         samples: SAMPLES,
         componentsEach: COMPONENTS_EACH,
         components: COMPONENTS,
+        overlap: most_overlap(f),
         width: WIDTH,
         text: TEXT,
         time: TIME,

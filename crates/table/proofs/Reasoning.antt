@@ -5,15 +5,16 @@ use mathlib.Core.Bool.{cond}
 use lib.Dec.{eqb}
 use native.Mathlib.Omega.{arith}
 use Rattle.table.specs.declared.reason.Reason.{Reason}
-use Rattle.table.specs.declared.reason.Reason.the-variants.{NoTable, OtherCount, HighWord, NoParameter, NoSample, TooLarge, NoFrame, UnknownMargin, NoParameters, FewWords, LongStream}
+use Rattle.table.specs.declared.reason.Reason.the-variants.{Overlapped, NoTable, OtherCount, HighWord, NoParameter, NoSample, TooLarge, NoFrame, UnknownMargin, NoParameters, FewWords, LongStream}
 use Rattle.table.specs.Reasons.{reasonNumber}
 
 -- the reason that a number tells
 unfoldable reasonOf : ℕ → Reason
-reasonOf n = cond (eqb n 18) NoTable (cond (eqb n 19) OtherCount (cond (eqb n 20) HighWord (cond (eqb n 21) NoParameter (cond (eqb n 22) NoSample (cond (eqb n 23) TooLarge (cond (eqb n 25) NoFrame (cond (eqb n 26) UnknownMargin (cond (eqb n 27) NoParameters (cond (eqb n 28) FewWords LongStream)))))))))
+reasonOf n = cond (eqb n 10) Overlapped (cond (eqb n 18) NoTable (cond (eqb n 19) OtherCount (cond (eqb n 20) HighWord (cond (eqb n 21) NoParameter (cond (eqb n 22) NoSample (cond (eqb n 23) TooLarge (cond (eqb n 25) NoFrame (cond (eqb n 26) UnknownMargin (cond (eqb n 27) NoParameters (cond (eqb n 28) FewWords LongStream))))))))))
 
 told : (r : Reason) → reasonOf (reasonNumber r) ≡ r
 unfolding reasonOf reasonNumber
+told Overlapped = refl
 told NoTable = refl
 told OtherCount = refl
 told HighWord = refl

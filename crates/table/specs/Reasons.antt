@@ -1,9 +1,11 @@
 -- Why a call on a table is refused, with 01's and 02's numbers: the one definition of them for every call.
 use Prim.Native.Nat.{ℕ}
 use Rattle.table.specs.declared.reason.Reason.{Reason}
-use Rattle.table.specs.declared.reason.Reason.the-variants.{NoTable, OtherCount, HighWord, NoParameter, NoSample, TooLarge, NoFrame, UnknownMargin, NoParameters, FewWords, LongStream}
+use Rattle.table.specs.declared.reason.Reason.the-variants.{Overlapped, NoTable, OtherCount, HighWord, NoParameter, NoSample, TooLarge, NoFrame, UnknownMargin, NoParameters, FewWords, LongStream}
 
 unfoldable pub reasonNumber : Reason → ℕ
+-- 02: "placing into an overlapped sample"
+reasonNumber Overlapped = 10
 -- "bytes aren't a table"
 reasonNumber NoTable = 18
 -- "word count of the frame differs"

@@ -3,6 +3,7 @@ ghost use mathlib.Core.Path.{_≡_};
 ghost use Rattle.table.specs.Reasons.{reasonNumber};
 
 pub enum Reason {
+    Overlapped,
     NoTable,
     OtherCount,
     HighWord,
@@ -21,6 +22,7 @@ pub fn reason_number(r: Reason) -> u32
     ensures { λ n. ⌜ n ≡ reasonNumber r ⌝ }
 {
     match r {
+        Reason::Overlapped => 10,
         Reason::NoTable => 18,
         Reason::OtherCount => 19,
         Reason::HighWord => 20,

@@ -61,8 +61,9 @@ fn read_line(t: &[u8], words: &[u16], parameter: u32, sample: u32) {
     let answer = read(t, words, parameter, sample);
     let number = read_number(answer);
     match answer {
-        Reading::Sample { raw, width, value } => reading(number, width, raw, value),
-        Reading::Refused(_) => reading(number, 0, 0, 0),
+        Reading::Sample { raw, width, value } => reading(number, 1, width, raw, value),
+        Reading::OverlapDiffers { raw, width, value } => reading(number, 2, width, raw, value),
+        Reading::Refused(_) => reading(number, 0, 0, 0, 0),
     }
 }
 

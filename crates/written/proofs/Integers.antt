@@ -1,16 +1,16 @@
 -- What the integers take, exactly: digits alone, and the number within its limits. Assumes nothing.
 use native.Mathlib.Omega.{arith}
-use mathlib.Core.Path.{_≡_, refl, sym, ap}
+use mathlib.Core.Path.{_≡_, refl, ap}
 use mathlib.Core.Logic.{_↔_}
-use mathlib.Core.Bool.{false, not}
+use mathlib.Core.Bool.{not}
 use mathlib.Core.List.{List}
 use Prim.Native.Nat.{ℕ, _≤_}
-use lib.Dec.{leb, eqb}
-use borrow.Author.Tests.{le-leb, leb-true, le-ltb, ltb-false, eq-eqb, eqb-true, not-false}
+use lib.Dec.{leb}
+use borrow.Author.Tests.{le-leb, leb-true, le-ltb, ltb-false, not-false}
 use Rattle.lay.proofs.Tests.{and-0, and-1}
 use Rattle.text.specs.declared.refusal.Judged.the-variants.{Passes}
 use Rattle.spell.specs.Digits.{number}
-use Rattle.spell.specs.Integers.{integerJudged, integerOf, mostOfSix, declaredJudged, declaredOf, overlapJudged, highestLabel, labelJudged, labelOf}
+use Rattle.spell.specs.Integers.{integerJudged, integerOf, mostOfSix, declaredJudged, declaredOf, highestLabel, labelJudged, labelOf}
 use Rattle.spell.specs.declared.answers.Number.the-variants.{Value}
 use Rattle.written.specs.Words.{Numeral, IsInteger, IsOctal}
 use Rattle.written.proofs.Passing.{first-all, all-first, when-false, false-when, number-says, says-number}
@@ -70,21 +70,6 @@ module _ (count : ℕ) (f : List ℕ) where
         (all-first _ (integer-passes 6 1 mostOfSix f (i .digits) a b, (false-when _ _ (le-ltb count (number 10 f) c), tt)))
         (i .value),
   )
-
--- ---- an overlap is 0
-
-pub overlap-exactly : (f : List ℕ) → (overlapJudged f ≡ Passes) ↔ IsInteger 6 f 0
-unfolding overlapJudged
-overlap-exactly f = (
-  λ e.
-      let q = first-all _ e in
-      let p = integer-passed 6 0 mostOfSix f (q .0) in
-      record { digits = p .0; value = sym (eqb-true (number 10 f) 0 (not-false _ (when-false _ _ (q .1 .0)))) },
-  λ i.
-      let b : number 10 f ≤ mostOfSix = omega (arith, six-below f (i .digits)) in
-      let z : not (eqb (number 10 f) 0) ≡ false = ap not (eq-eqb (number 10 f) 0 (sym (i .value))) in
-      all-first _ (integer-passes 6 0 mostOfSix f (i .digits) (omega arith) b, (false-when _ _ z, tt)),
-)
 
 -- ---- a label is at most 377 octal
 

@@ -1,13 +1,15 @@
--- An identifier's raw value is joined from the stream.
+-- An identifier's components are compared in the stream.
 use mathlib.Core.Path.{_≡_, sym, ap, ap₂, _∙_}
 use denote.Ref.{now}
 use Prim.Native.Nat.{ℕ, _+_, _/_}
 use native.Mathlib.Omega.{arith}
 use borrow.Author.Tests.{eq-eqb, ne-eqb}
-use lib.Dec.{eqb}
+use Rattle.model.specs.Samples.{holds}
 use Rattle.model.specs.Stored.{firstSampleIn}
-use Rattle.model.specs.View.{view}
-use Rattle.framing.proofs.Listed.{listed-at, first-one, here-at, law-at, joined-read}
+use Rattle.model.specs.View.{sampleAt, view}
+use Rattle.rules.specs.Ruled.{subframesOf}
+use Rattle.rules.proofs.Identifying.{first}
+use Rattle.framing.proofs.Listed.{listed-at, first-one, here-at, law-at}
 use Rattle.carding.specs.Layout.{frameAt}
 use Rattle.carding.proofs.Agreeing.{plain-reads, identifier-reads}
 use borrow.Author.Needs.{needs}
@@ -22,8 +24,8 @@ returns c =
     let l = c .before .before .before .before .before .pre .1 .1 .0 in
     sym (plain-reads _ _ _ l (ne-eqb _ _ (λ x. c .if1 .taken (ap (λ (y : ℕ). y / 2) (c .before .before .parameter-at .ensures .flags-is) ∙ x))))
 
-joined-in-requires : tie.Need-joined-in-requires
-joined-in-requires c κs =
+holds-in-requires : tie.Need-holds-in-requires
+holds-in-requires c κs =
     let s = c .before .before .before .before .before in
     let t = now (s .args .t) in
     let i = s .args .i in
@@ -33,17 +35,15 @@ joined-in-requires c κs =
 
 returns-2 : tie.Need-returns-2
 returns-2 c =
-    let s = c .before .before .before .before .before .before .before in
+    let s = c .before .before .before .before .before .before in
     let t = now (s .args .t) in
     let i = s .args .i in
     let l = s .pre .1 .1 .0 in
-    let e = c .before .before .before .before .parameter-at .ensures in
-    let m = listed-at t i 0 (s .pre .0 .ruled) l (first-one t i (s .pre .0 .ruled) l) in
-    let q : c .before .before .before .before .parameter-at .result .first ≡ firstSampleIn t i + 0 = omega (arith, e) in
+    let e = c .before .before .before .parameter-at .ensures in
     let f = frameAt (view t) (now (s .args .stream)) (s .args .p) in
-    let raw = joined-read t i 0 m q f (c .before .joined-in .result) (c .before .joined-in .ensures) .raw in
-    ap₂ eqb raw (e .value-is)
-    ∙ sym (identifier-reads t f i l (eq-eqb _ _ (sym (ap (λ (x : ℕ). x / 2) (e .flags-is)) ∙ c .before .before .if1 .left)))
+    c .holds-in .ensures
+    ∙ ap₂ (holds (subframesOf t) f) (ap (sampleAt t) (e .first-is) ∙ sym (first t i (s .pre .0 .ruled) l .is)) (e .value-is)
+    ∙ sym (identifier-reads t f i l (eq-eqb _ _ (sym (ap (λ (x : ℕ). x / 2) (e .flags-is)) ∙ c .before .if1 .left)))
 
 pub reads-at-spec : {M : Type 1} → statement M
-reads-at-spec = tie.close (tie.spec parameter-at-requires returns joined-in-requires returns-2)
+reads-at-spec = tie.close (tie.spec parameter-at-requires returns holds-in-requires returns-2)

@@ -1,22 +1,27 @@
--- The rest of the identifier's value is what is left of its components.
+-- The rows so far are bits that every frame with this identifier has.
 use mathlib.Core.Path.{_≡_, sym, ap, _∙_}
 use denote.Ref.{now}
 use Prim.Native.Nat.{ℕ, _+_, _-_, _/_}
 use native.Mathlib.Omega.{arith}
 use borrow.Author.Tests.{eq-eqb}
+use Rattle.model.specs.Samples.{holds}
 use Rattle.model.specs.Stored.{firstSampleIn, firstComponentIn, componentCountIn}
-use Rattle.framing.proofs.Listed.{listed-at, first-one, here-at, pieces-here}
+use Rattle.model.specs.View.{sampleAt, view}
+use Rattle.rules.specs.Ruled.{subframesOf}
+use Rattle.framing.proofs.Listed.{listed-at, first-one, here-at, law-at}
+use Rattle.carding.specs.Layout.{frameAt}
 use Rattle.card.specs.Sieve.{rowsOf}
-use Rattle.card.proofs.Sieves.{Sifting, law-here, sifting-more, value-joined}
+use Rattle.card.proofs.Runs.{along-none, law-here, place-narrow, next-narrow}
+use Rattle.card.proofs.Sieves.{Sifting, sifting-more, value-held}
 use borrow.Author.Needs.{needs}
 use Rattle.card.proofs.sieve.sift_more.Statement.{statement}
 use Rattle.card.proofs.sieve.sift_more.Tie as tie
 
 abbrev Inv-loop : tie.InvT-loop
-Inv-loop t o i begins first count s₀ rest₀ k₀ s rest k = Sifting t (firstSampleIn t i) (rowsOf s) first count rest k
+Inv-loop t o i begins first count v s₀ at₀ k₀ s at k = Sifting t (firstSampleIn t i) v (rowsOf s) first count at k
 
 abbrev μ-loop : tie.MeasureT-loop
-μ-loop t o i begins first count s₀ rest₀ k₀ s rest k = count - k
+μ-loop t o i begins first count v s₀ at₀ k₀ s at k = count - k
 
 parameter-at-requires : tie.Need-parameter-at-requires Inv-loop μ-loop
 parameter-at-requires c κs = search needs
@@ -40,19 +45,17 @@ loop-holds c =
     let s = c .before .before .before .before .before in
     let b = now (s .args .t) in
     let i = s .args .i in
+    let r = s .pre .0 .ruled in
     let l = s .pre .1 .1 .0 in
-    let m = listed-at b i 0 (s .pre .0 .ruled) l (first-one b i (s .pre .0 .ruled) l) in
+    let m = listed-at b i 0 r l (first-one b i r l) in
     let e = c .before .before .before .parameter-at .ensures in
     let q : firstSampleIn b i ≡ firstSampleIn b i + 0 = omega arith in
     let is = c .sample-at .ensures in
     let flag = eq-eqb _ _ (sym (ap (λ (x : ℕ). x / 2) (e .flags-is)) ∙ c .before .if1 .left) in
     record {
-      firsts = is .first-is ∙ ap (firstComponentIn b) (e .first-is);
-      counted = is .count-is ∙ ap (componentCountIn b) (e .first-is);
-      inside = omega arith;
-      here = pieces-here b i 0 m q;
+      along = along-none (is .first-is ∙ ap (firstComponentIn b) (e .first-is)) (is .count-is ∙ ap (componentCountIn b) (e .first-is)) r (law-at b i 0 m q);
       sieve = s .pre .1 .1 .1;
-      left-is = λ y p h. value-joined b i (s .pre .0 .ruled) l flag y p h ∙ sym (e .value-is);
+      held = λ y p h. ap (holds (subframesOf b) (frameAt (view b) y p) (sampleAt b (firstSampleIn b i))) (e .value-is) ∙ value-held b i r l flag y p h;
     }
 
 add-run-at : tie.Need-add-run-at Inv-loop μ-loop
@@ -65,34 +68,31 @@ run-at-requires c κs =
     let i = s .args .i in
     let l = s .pre .1 .1 .0 in
     let m = listed-at b i 0 (s .pre .0 .ruled) l (first-one b i (s .pre .0 .ruled) l) in
-    let e = c .before .before .before .before .before .parameter-at .ensures in
-    let v = c .before .loop .inv in
+    let v = c .before .loop .inv .along in
     let t = c .loop-test .taken in
     let q : firstSampleIn b i ≡ firstSampleIn b i + 0 = omega arith in
-    (s .pre .0 .opened, (omega (arith, v, t, here-at b i 0 m q), (s .pre .0 .ruled .subframes, (s .pre .1 .0, law-here v t))))
+    (s .pre .0 .opened, (omega (arith, v .firsts, v .counted, t, here-at b i 0 m q), (s .pre .0 .ruled .subframes, (s .pre .1 .0, law-here v t))))
 
-power-of-two-requires : tie.Need-power-of-two-requires Inv-loop μ-loop
-power-of-two-requires c κs = omega (arith, c .run-at .ensures .few)
-
-rem-with : tie.Need-rem-with Inv-loop μ-loop
-rem-with c = search needs
+field-of-requires : tie.Need-field-of-requires Inv-loop μ-loop
+field-of-requires c κs =
+    (omega (arith, place-narrow (c .before .before .loop .inv .along) (c .before .loop-test .taken)), omega (arith, c .run-at .ensures .few))
 
 with-requires : tie.Need-with-requires Inv-loop μ-loop
 with-requires c κs =
     let e = c .before .run-at .ensures in
     (c .before .before .before .loop .inv .sieve .shaped, (e .small, e .few))
 
-div-rest : tie.Need-div-rest Inv-loop μ-loop
-div-rest c = search needs
+add-at : tie.Need-add-at Inv-loop μ-loop
+add-at c = omega (arith, next-narrow (c .before .before .before .before .before .loop .inv .along) (c .before .before .before .before .loop-test .taken) (c .before .before .before .run-at .ensures))
 
 add-k : tie.Need-add-k Inv-loop μ-loop
 add-k c = search needs
 
 loop-less : tie.Need-loop-less Inv-loop μ-loop
-loop-less c = omega (arith, c .before .before .before .before .loop .inv, c .before .before .before .loop-test .taken)
+loop-less c = omega (arith, c .before .before .before .before .loop-test .taken)
 
 loop-again : tie.Need-loop-again Inv-loop μ-loop
-loop-again c = sifting-more (c .before .before .before .before .loop .inv) (c .before .before .before .loop-test .taken) (c .before .before .run-at .ensures) (c .before .power-of-two .ensures .is) (c .with .ensures)
+loop-again c = sifting-more (c .before .before .before .before .before .loop .inv) (c .before .before .before .before .loop-test .taken) (c .before .before .before .run-at .ensures) (c .before .before .field-of .ensures) (c .before .with .ensures)
 
 returns-2 : tie.Need-returns-2 Inv-loop μ-loop
 returns-2 c = c .before .loop .inv .sieve
@@ -109,10 +109,9 @@ sift-more-spec =
     loop-holds
     add-run-at
     run-at-requires
-    power-of-two-requires
-    rem-with
+    field-of-requires
     with-requires
-    div-rest
+    add-at
     add-k
     loop-less
     loop-again

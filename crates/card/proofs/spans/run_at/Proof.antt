@@ -3,7 +3,7 @@ use mathlib.Core.Path.{_≡_, sym, ap, ap₂, _∙_}
 use denote.Ref.{now}
 use Prim.Native.Nat.{ℕ, _+_, _-_, _<_}
 use native.Mathlib.Omega.{arith}
-use Rattle.model.specs.Samples.{piece}
+use Rattle.model.specs.Samples.{whole, piece}
 use Rattle.model.specs.Stored.{subframesIn, homeIn}
 use Rattle.model.specs.View.{componentAt}
 use Rattle.card.proofs.SpanLaws.{inside, narrow-there, component-there}
@@ -57,23 +57,34 @@ sub-bits c = omega (arith, c .before .before .before .before .before .before .be
 cast-bits : tie.Need-cast-bits
 cast-bits c = omega (arith, c .before .before .before .before .before .before .before .before .component-at .ensures, inside _ _ (c .before .before .before .before .before .before .before .before .before .before .pre .1 .1 .0) (c .before .before .before .before .before .before .before .before .before .before .pre .1 .1 .1 .1))
 
+cast-given : tie.Need-cast-given
+cast-given c =
+    let s = c .before .before .before .before .before .before .before .before .before .before .before in
+    omega (arith, c .before .before .before .before .before .before .before .before .before .component-at .ensures, inside _ _ (s .pre .1 .1 .0) (s .pre .1 .1 .1 .1))
+
+sub-given : tie.Need-sub-given
+sub-given c =
+    let s = c .before .before .before .before .before .before .before .before .before .before .before in
+    omega (arith, c .before .before .before .before .before .before .before .before .before .component-at .ensures, inside _ _ (s .pre .1 .1 .0) (s .pre .1 .1 .1 .1))
+
 returns : tie.Need-returns
-unfolding piece componentAt
+unfolding whole piece componentAt
 returns c =
-    let s = c .before .before .before .before .before .before .before .before .before .before in
+    let s = c .before .before .before .before .before .before .before .before .before .before .before in
     let f = inside (now (s .args .t)) (s .args .k) (s .pre .1 .1 .0) (s .pre .1 .1 .1 .1) in
-    let e = c .before .before .before .before .before .before .before .before .component-at .ensures in
+    let e = c .before .before .before .before .before .before .before .before .before .component-at .ensures in
     let b = now (s .args .t) in
     let k = s .args .k in
-    let home : ℕ = c .before .before .before .before .before .before .before .before .component-at .result .subframe - 1 in
+    let home : ℕ = c .before .before .before .before .before .before .before .before .before .component-at .result .subframe - 1 in
     let q : home ≡ homeIn b k - 1 = ap (λ (x : ℕ). x - 1) (e .subframe-is) in
     let l : home < subframesIn b = omega (arith, e, f) in
     let begin = s .pre .1 .1 .1 .0 .each home l in
-    let bits = c .before .before .before .before .before .before .subframe-at .ensures .bits-is in
-    let at = c .before .before .bit-of .ensures in
+    let bits = c .before .before .before .before .before .before .before .subframe-at .ensures .bits-is in
+    let at = c .before .before .before .bit-of .ensures in
     record {
       at-is = at .0 ∙ rw (begin, bits, q, e .word-is, e .low-is) (sym (component-there b k (s .pre .1 .1 .0) (s .pre .1 .1 .1 .1)));
       bits-is = ap₂ (λ (x y : ℕ). x + 1 - y) (e .high-is) (e .low-is);
+      given-is = omega (arith, e .high-is, e .low-is, e .overlap-is, f .lapped);
       few = omega (arith, e, f);
       small = at .1;
     }
@@ -93,4 +104,6 @@ run-at-spec =
     add-bits
     sub-bits
     cast-bits
+    cast-given
+    sub-given
     returns)

@@ -13,6 +13,9 @@ read-number-requires c κs = search needs
 enum-known-reading : tie.Need-enum-known-reading
 enum-known-reading c = search needs
 
+enum-known-reading-2 : tie.Need-enum-known-reading-2
+enum-known-reading-2 c = search needs
+
 enum-told : tie.Need-enum-told
 enum-told c = search needs
 
@@ -24,8 +27,14 @@ returns c =
 
 returns-2 : tie.Need-returns-2
 unfolding sampleOut
-returns-2 c = rw (c .before .before .read-number .ensures, c .enum-told .given .1)
+returns-2 c =
+    let fits : SFits w64 (c .before .reading2 .given .0 .1 .1 .0) = record { sfits = c .known-told2 .given .1 .1 .0 .1 } in
+    rw (c .before .before .before .read-number .ensures, c .before .reading2 .given .1, toZ-ofZ fits)
+
+returns-3 : tie.Need-returns-3
+unfolding sampleOut
+returns-3 c = rw (c .before .before .read-number .ensures, c .enum-told .given .1)
 
 pub sample-out-spec : {M : Type 1} → statement M
 sample-out-spec =
-    tie.close (tie.spec read-number-requires enum-known-reading enum-told returns returns-2)
+    tie.close (tie.spec read-number-requires enum-known-reading enum-known-reading-2 enum-told returns returns-2 returns-3)

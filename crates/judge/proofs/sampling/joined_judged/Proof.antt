@@ -1,7 +1,7 @@
 use Prim.Native.Nat.{_+_}
 use Rattle.sample.specs.Promise.{listed}
 use Rattle.judge.specs.Sampling.{bitsIn}
-use Rattle.judge.proofs.SamplingLaws.{twice-here, wide-here, joined-none}
+use Rattle.judge.proofs.SamplingLaws.{twice-here, wide-here, lapped-here, next-here, joined-none}
 use borrow.Author.Needs.{needs}
 use Rattle.judge.proofs.sampling.joined_judged.Statement.{statement}
 use Rattle.judge.proofs.sampling.joined_judged.Tie as tie
@@ -23,26 +23,36 @@ names-twice-requires c κs = search needs
 returns : tie.Need-returns
 returns c =
     let a = c .before .before .before .before .before .args in
-    twice-here (listed (a .g .spots)) _ _ _ (c .before .before .with .ensures .1) (c .before .before .before .spot-of .ensures) _ (c .before .names-twice .ensures) (a .g .width + bitsIn (a .p)) (c .if1 .taken)
+    twice-here (listed (a .g .spots)) _ _ _ (c .before .before .with .ensures .1) (c .before .before .before .spot-of .ensures) _ (c .before .names-twice .ensures) (a .g .width + bitsIn (a .p)) (bitsIn (a .p)) (a .p .overlap) (a .g .lapped) (c .if1 .taken)
+
+add-bits : tie.Need-add-bits
+add-bits c = search needs
+
+sub-bits : tie.Need-sub-bits
+sub-bits c = search needs
 
 add-if2 : tie.Need-add-if2
 add-if2 c = search needs
 
-sub-if2 : tie.Need-sub-if2
-sub-if2 c = search needs
-
-add-if2-2 : tie.Need-add-if2-2
-add-if2-2 c = search needs
-
 returns-2 : tie.Need-returns-2
 returns-2 c =
     let a = c .before .before .before .before .before .before .before .before .before .args in
-    wide-here (listed (a .g .spots)) _ _ _ (c .before .before .before .before .before .before .with .ensures .1) (c .before .before .before .before .before .before .before .spot-of .ensures) _ (c .before .before .before .before .before .names-twice .ensures) (a .g .width + bitsIn (a .p)) (c .before .before .before .before .if1 .left) (c .if2 .taken)
+    wide-here (listed (a .g .spots)) _ _ _ (c .before .before .before .before .before .before .with .ensures .1) (c .before .before .before .before .before .before .before .spot-of .ensures) _ (c .before .before .before .before .before .names-twice .ensures) (a .g .width + bitsIn (a .p)) (bitsIn (a .p)) (a .p .overlap) (a .g .lapped) (c .before .before .before .before .if1 .left) (c .if2 .taken)
 
 returns-3 : tie.Need-returns-3
 returns-3 c =
-    let a = c .before .before .before .before .before .before .before .before .before .args in
-    joined-none (listed (a .g .spots)) _ _ _ (c .before .before .before .before .before .before .with .ensures .1) (c .before .before .before .before .before .before .before .spot-of .ensures) _ (c .before .before .before .before .before .names-twice .ensures) (a .g .width + bitsIn (a .p)) (c .before .before .before .before .if1 .left) (c .if2 .left)
+    let a = c .before .before .before .before .before .before .before .before .before .before .before .args in
+    lapped-here (listed (a .g .spots)) _ _ _ (c .before .before .before .before .before .before .before .before .with .ensures .1) (c .before .before .before .before .before .before .before .before .before .spot-of .ensures) _ (c .before .before .before .before .before .before .before .names-twice .ensures) (a .g .width + bitsIn (a .p)) (bitsIn (a .p)) (a .p .overlap) (a .g .lapped) (c .before .before .before .before .before .before .if1 .left) (c .before .before .if2 .left) (c .if3 .taken)
+
+returns-4 : tie.Need-returns-4
+returns-4 c =
+    let a = c .before .before .before .before .before .before .before .before .before .before .before .before .before .args in
+    next-here (listed (a .g .spots)) _ _ _ (c .before .before .before .before .before .before .before .before .before .before .with .ensures .1) (c .before .before .before .before .before .before .before .before .before .before .before .spot-of .ensures) _ (c .before .before .before .before .before .before .before .before .before .names-twice .ensures) (a .g .width + bitsIn (a .p)) (bitsIn (a .p)) (a .p .overlap) (a .g .lapped) (c .before .before .before .before .before .before .before .before .if1 .left) (c .before .before .before .before .if2 .left) (c .before .before .if3 .left) (c .if4 .taken)
+
+returns-5 : tie.Need-returns-5
+returns-5 c =
+    let a = c .before .before .before .before .before .before .before .before .before .before .before .before .before .args in
+    joined-none (listed (a .g .spots)) _ _ _ (c .before .before .before .before .before .before .before .before .before .before .with .ensures .1) (c .before .before .before .before .before .before .before .before .before .before .before .spot-of .ensures) _ (c .before .before .before .before .before .before .before .before .before .names-twice .ensures) (a .g .width + bitsIn (a .p)) (bitsIn (a .p)) (a .p .overlap) (a .g .lapped) (c .before .before .before .before .before .before .before .before .if1 .left) (c .before .before .before .before .if2 .left) (c .before .before .if3 .left) (c .if4 .left)
 
 pub joined-judged-spec : {M : Type 1} → statement M
 joined-judged-spec =
@@ -52,8 +62,10 @@ joined-judged-spec =
     with-requires
     names-twice-requires
     returns
+    add-bits
+    sub-bits
     add-if2
-    sub-if2
-    add-if2-2
     returns-2
-    returns-3)
+    returns-3
+    returns-4
+    returns-5)

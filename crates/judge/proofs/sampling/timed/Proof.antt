@@ -15,6 +15,7 @@ returns c =
     record {
       count = n .count;
       width = n .width;
+      lapped = n .lapped;
       home = n .home;
       alone = n .alone;
       first = simp (eq-eqb _ _ (c .before .if1 .taken));
@@ -28,6 +29,7 @@ returns-2 c =
     record {
       count = n .count;
       width = n .width;
+      lapped = n .lapped;
       home = n .home;
       alone = n .alone;
       first = simp (ne-eqb _ _ (c .before .if1 .left));

@@ -8,12 +8,12 @@ use Rattle.lineforms.proofs.fields.component_fields.Tie as tie
 use Rattle.lineforms.proofs.fields.component_fields.Reads as reads
 use Rattle.lineforms.proofs.fields.component_fields.Lts as lts
 use Rattle.lineforms.proofs.fields.declared_for.Reads as declared-for-reads
+use Rattle.lineforms.proofs.fields.integer_at.Reads as integer-at-reads
 use Rattle.lineforms.proofs.said.subframe_in.Reads as subframe-in-reads
 use Rattle.spell.proofs.answers.bits_judged.Reads as bits-judged-reads
 use Rattle.spell.proofs.answers.number_judged.Reads as number-judged-reads
 use Rattle.spell.proofs.ranges.component_bits.Reads as component-bits-reads
 use Rattle.spell.proofs.integers.declared.Reads as declared-reads
-use Rattle.spell.proofs.integers.overlap.Reads as overlap-reads
 use Rattle.text.proofs.field.field_of.Reads as field-of-reads
 use Rattle.text.proofs.refusal.or_else.Reads as or-else-reads
 
@@ -44,17 +44,14 @@ number-judged-requires-2 c κs = search needs
 or-else-requires : tie.Need-or-else-requires
 or-else-requires c κs = search needs
 
-field-of-requires-3 : tie.Need-field-of-requires-3
-field-of-requires-3 c κs = search needs
-
-overlap-requires : tie.Need-overlap-requires
-overlap-requires c κs = search needs
+integer-at-requires : tie.Need-integer-at-requires
+integer-at-requires c κs = search needs
 
 or-else-requires-2 : tie.Need-or-else-requires-2
 or-else-requires-2 c κs = search needs
 
-field-of-requires-4 : tie.Need-field-of-requires-4
-field-of-requires-4 c κs = search needs
+field-of-requires-3 : tie.Need-field-of-requires-3
+field-of-requires-3 c κs = search needs
 
 declared-for-requires-2 : tie.Need-declared-for-requires-2
 declared-for-requires-2 c κs = search needs
@@ -70,8 +67,8 @@ or-else-requires-3 c κs = search needs
 
 returns : tie.Need-returns
 returns c =
-    let l = componentFields (c .before .before .before .before .before .before .before .before .before .before .before .before .before .before .before .before .before .before .before .before .args .subframes) (c .before .before .before .before .before .before .before .before .before .before .before .before .before .before .before .before .before .before .before .before .args .words .now) (c .before .before .before .before .before .before .before .before .before .before .before .before .before .before .before .before .before .before .before .before .args .bits .now) (c .before .before .before .before .before .before .before .before .before .before .before .before .before .before .before .before .before .before .before .before .args .line .now) in
-    let e : c .or-else3 .result ≡ chained l = simp (c .or-else3 .ensures, c .before .bits-judged .ensures, c .before .before .component-bits .ensures, c .before .before .before .declared-for2 .ensures, c .before .before .before .before .field-of4 .ensures, c .before .before .before .before .before .or-else2 .ensures, c .before .before .before .before .before .before .overlap .ensures, c .before .before .before .before .before .before .before .field-of3 .ensures, c .before .before .before .before .before .before .before .before .or-else .ensures, c .before .before .before .before .before .before .before .before .before .number-judged2 .ensures, c .before .before .before .before .before .before .before .before .before .before .declared2 .ensures, c .before .before .before .before .before .before .before .before .before .before .before .declared-for .ensures, c .before .before .before .before .before .before .before .before .before .before .before .before .field-of2 .ensures, c .before .before .before .before .before .before .before .before .before .before .before .before .before .number-judged .ensures, c .before .before .before .before .before .before .before .before .before .before .before .before .before .before .declared .ensures, c .before .before .before .before .before .before .before .before .before .before .before .before .before .before .before .field-of .ensures, c .before .before .before .before .before .before .before .before .before .before .before .before .before .before .before .before .subframe-in .ensures, declared-same, bits-same) in
+    let l = componentFields (c .before .before .before .before .before .before .before .before .before .before .before .before .before .before .before .before .before .before .before .args .subframes) (c .before .before .before .before .before .before .before .before .before .before .before .before .before .before .before .before .before .before .before .args .words .now) (c .before .before .before .before .before .before .before .before .before .before .before .before .before .before .before .before .before .before .before .args .bits .now) (c .before .before .before .before .before .before .before .before .before .before .before .before .before .before .before .before .before .before .before .args .line .now) in
+    let e : c .or-else3 .result ≡ chained l = simp (c .or-else3 .ensures, c .before .bits-judged .ensures, c .before .before .component-bits .ensures, c .before .before .before .declared-for2 .ensures, c .before .before .before .before .field-of3 .ensures, c .before .before .before .before .before .or-else2 .ensures, c .before .before .before .before .before .before .integer-at .ensures, c .before .before .before .before .before .before .before .or-else .ensures, c .before .before .before .before .before .before .before .before .number-judged2 .ensures, c .before .before .before .before .before .before .before .before .before .declared2 .ensures, c .before .before .before .before .before .before .before .before .before .before .declared-for .ensures, c .before .before .before .before .before .before .before .before .before .before .before .field-of2 .ensures, c .before .before .before .before .before .before .before .before .before .before .before .before .number-judged .ensures, c .before .before .before .before .before .before .before .before .before .before .before .before .before .declared .ensures, c .before .before .before .before .before .before .before .before .before .before .before .before .before .before .field-of .ensures, c .before .before .before .before .before .before .before .before .before .before .before .before .before .before .before .subframe-in .ensures, declared-same, bits-same) in
     e ∙ chained-first l
 
 pub component-fields-spec : {M : Type 1} → statement M
@@ -87,10 +84,9 @@ component-fields-spec =
     declared-requires-2
     number-judged-requires-2
     or-else-requires
-    field-of-requires-3
-    overlap-requires
+    integer-at-requires
     or-else-requires-2
-    field-of-requires-4
+    field-of-requires-3
     declared-for-requires-2
     component-bits-requires
     bits-judged-requires

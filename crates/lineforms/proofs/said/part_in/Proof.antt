@@ -36,8 +36,17 @@ low-of-requires c κs = search needs
 high-of-requires : tie.Need-high-of-requires
 high-of-requires c κs = search needs
 
+field-of-requires-3 : tie.Need-field-of-requires-3
+field-of-requires-3 c κs = search needs
+
+integer-requires-2 : tie.Need-integer-requires-2
+integer-requires-2 c κs = search needs
+
+amount-requires-2 : tie.Need-amount-requires-2
+amount-requires-2 c κs = search needs
+
 returns : tie.Need-returns
-returns c = part-modest _ _ (simp (c .high-of .ensures, c .before .low-of .ensures, c .before .before .amount .ensures, c .before .before .before .integer .ensures, c .before .before .before .before .field-of2 .ensures, c .before .before .before .before .before .subframe-in .ensures, c .before .before .before .before .before .before .component-bits .ensures, c .before .before .before .before .before .before .before .field-of .ensures))
+returns c = part-modest _ _ (simp (c .amount2 .ensures, c .before .integer2 .ensures, c .before .before .field-of3 .ensures, c .before .before .before .high-of .ensures, c .before .before .before .before .low-of .ensures, c .before .before .before .before .before .amount .ensures, c .before .before .before .before .before .before .integer .ensures, c .before .before .before .before .before .before .before .field-of2 .ensures, c .before .before .before .before .before .before .before .before .subframe-in .ensures, c .before .before .before .before .before .before .before .before .before .component-bits .ensures, c .before .before .before .before .before .before .before .before .before .before .field-of .ensures))
 
 pub part-in-spec : {M : Type 1} → statement M
 part-in-spec =
@@ -51,4 +60,7 @@ part-in-spec =
     amount-requires
     low-of-requires
     high-of-requires
+    field-of-requires-3
+    integer-requires-2
+    amount-requires-2
     returns)

@@ -1,16 +1,19 @@
 -- Each test is one of the sample's.
 use mathlib.Core.Path.{sym, ap, _∙_}
+use Prim.Native.Nat.{_≤_}
 use native.Mathlib.Omega.{arith}
+use lib.ListN.{length}
 use denote.Ref.{now}
 use Rattle.lay.proofs.Tests.{differ}
 use Rattle.model.specs.Limits.{Limits}
 use Rattle.model.specs.View.{sampleAt}
 use Rattle.model.proofs.Laying.{limits-within}
+use Rattle.model.proofs.Pieces.{width-some}
 use Rattle.model.proofs.Views.{components-at}
 use Rattle.stored.proofs.Reading.{known-here, bounds-are}
-use Rattle.rules.proofs.Samplings.{viewed, tested}
+use Rattle.rules.specs.Ruled.{subframesOf}
+use Rattle.rules.proofs.Samplings.{viewed, tested, overlaps-said}
 use Rattle.rules.proofs.Widths.{measured, unlawful, lawful-is, some-width}
-use borrow.Author.Needs.{needs}
 use Rattle.rules.proofs.samples.lawful_width.Statement.{statement}
 use Rattle.rules.proofs.samples.lawful_width.Tie as tie
 
@@ -59,16 +62,21 @@ returns-7 c =
     let j = c .before .before .before .before .before .before .before .before .before .before .before .before .before .before .before .before .before .args .j in
     let w = limits-within _ (c .before .before .before .before .before .before .before .before .before .before .before .before .before .before .before .before .before .pre .0 .sized .formed) .componentsEach in
     let m = measured _ _ (λ z. c .before .before .before .before .if4 .left (c .before .before .before .before .before .components-width .ensures ∙ z)) in
-    let h = tested _ _ (m .0) (omega (arith, w, c .before .before .before .before .before .before .before .before .before .before .before .before .before .before .sample-at .ensures .count-is, ap (λ (l : Limits). l .componentsEach) (bounds-are _ (c .before .before .before .before .before .before .before .before .before .before .before .before .before .before .before .before .before .pre .0 .form-is) (c .before .before .before .before .before .before .before .before .before .before .before .before .before .before .before .bounds-of .ensures)), c .before .before .before .before .before .before .if3 .left)) in
+    let most = bounds-are _ (c .before .before .before .before .before .before .before .before .before .before .before .before .before .before .before .before .before .pre .0 .form-is) (c .before .before .before .before .before .before .before .before .before .before .before .before .before .before .before .bounds-of .ensures) in
+    let s = c .before .before .before .before .before .before .before .before .before .before .before .before .before .before .sample-at .ensures in
+    let h = tested _ _ (m .0) (omega (arith, w, s .count-is, ap (λ (l : Limits). l .componentsEach) most, c .before .before .before .before .before .before .if3 .left)) in
+    let some : 1 ≤ length (sampleAt b j .components) = omega (arith, s .count-is, components-at b j, c .before .before .before .before .before .before .before .before .before .if2 .left) in
     c .before .before .before .before .before .components-width .ensures
     ∙ m .1
     ∙ lawful-is b j
     (record {
-      time = omega (arith, c .before .before .before .before .before .before .before .before .before .before .before .before .before .before .sample-at .ensures .time-is, ap (λ (l : Limits). l .time) (bounds-are _ (c .before .before .before .before .before .before .before .before .before .before .before .before .before .before .before .before .before .pre .0 .form-is) (c .before .before .before .before .before .before .before .before .before .before .before .before .before .before .before .bounds-of .ensures)), c .before .before .before .before .before .before .before .before .before .before .before .if1 .left);
-      some = omega (arith, c .before .before .before .before .before .before .before .before .before .before .before .before .before .before .sample-at .ensures .count-is, components-at b j, c .before .before .before .before .before .before .before .before .before .if2 .left);
-      few = omega (arith, c .before .before .before .before .before .before .before .before .before .before .before .before .before .before .sample-at .ensures .count-is, components-at b j, ap (λ (l : Limits). l .componentsEach) (bounds-are _ (c .before .before .before .before .before .before .before .before .before .before .before .before .before .before .before .before .before .pre .0 .form-is) (c .before .before .before .before .before .before .before .before .before .before .before .before .before .before .before .bounds-of .ensures)), c .before .before .before .before .before .before .if3 .left);
+      time = omega (arith, s .time-is, ap (λ (l : Limits). l .time) most, c .before .before .before .before .before .before .before .before .before .before .before .if1 .left);
+      some = some;
+      few = omega (arith, s .count-is, components-at b j, ap (λ (l : Limits). l .componentsEach) most, c .before .before .before .before .before .before .if3 .left);
       each = viewed b j h;
-      narrow = omega (arith, m .1, c .before .before .before .before .before .components-width .ensures, ap (λ (l : Limits). l .width) (bounds-are _ (c .before .before .before .before .before .before .before .before .before .before .before .before .before .before .before .before .before .pre .0 .form-is) (c .before .before .before .before .before .before .before .before .before .before .before .before .before .before .before .bounds-of .ensures)), c .before .before .if5 .left);
+      overlaps = overlaps-said b j (m .0);
+      wide = width-some (subframesOf b) (sampleAt b j) (viewed b j h) some;
+      narrow = omega (arith, m .1, c .before .before .before .before .before .components-width .ensures, ap (λ (l : Limits). l .width) most, c .before .before .if5 .left);
       once = sym (c .before .named-twice .ensures) ∙ c .if6 .left;
     })
 

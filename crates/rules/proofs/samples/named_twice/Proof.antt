@@ -1,32 +1,33 @@
 -- Each component is held against those after it; the walk is left where two clash.
 use mathlib.Core.Path.{_≡_, refl, sym, ap, subst, _∙_}
 use mathlib.Core.Bool.{Bool, false, _||_}
-use mathlib.Core.List.{List}
+use mathlib.Core.List.{List, [], _∷_}
 use denote.Ref.{now}
 use Prim.Native.Nat.{ℕ, _+_, _-_, _≤_, _<_}
 use native.Mathlib.Omega.{arith}
+use lib.ListN.{length}
+use Rattle.sample.specs.declared.component.Component.{Component as Piece}
 use Rattle.sample.specs.Clash.{clash, clashAny, twice}
-use Rattle.sample.proofs.Walks.{twice-row, row-done, row-apart, row-found, twice-done}
-use Rattle.model.specs.Samples.{piece, pieces}
+use Rattle.sample.proofs.Walks.{twice-row, row-done, row-apart, row-found}
+use Rattle.model.specs.Samples.{whole, wholes}
 use Rattle.model.specs.Stored.{firstComponentIn, componentCountIn}
 use Rattle.model.specs.View.{componentAt, sampleAt}
 use Rattle.model.specs.Meaning.{ComponentLaw}
 use Rattle.rules.specs.Ruled.{subframesOf}
-use Rattle.rules.proofs.Samplings.{stands, left, left-next, left-none}
-use borrow.Author.Needs.{needs}
+use Rattle.rules.proofs.Samplings.{standsWhole, leftWhole, whole-next, whole-none, wholes-left}
 use Rattle.rules.proofs.samples.named_twice.Statement.{statement}
 use Rattle.rules.proofs.samples.named_twice.Tie as tie
 
 -- what the walk is to tell
-abbrev whole : List ℕ → ℕ → Bool
-whole b j = twice (pieces (subframesOf b) (sampleAt b j))
+abbrev told : List ℕ → ℕ → Bool
+told b j = twice (wholes (subframesOf b) (sampleAt b j))
 
 record Outer (b : List ℕ) (j first count : ℕ) (found : Bool) (k : ℕ) : Type 0 where
   firsts : first ≡ firstComponentIn b j
   counted : count ≡ componentCountIn b j
   within : k ≤ count
   clear : found ≡ false
-  rest : twice (left b j k) ≡ whole b j
+  rest : twice (leftWhole b j k) ≡ told b j
 
 record Inner (b : List ℕ) (j first count k : ℕ) (found : Bool) (i : ℕ) : Type 0 where
   firsts : first ≡ firstComponentIn b j
@@ -34,7 +35,7 @@ record Inner (b : List ℕ) (j first count k : ℕ) (found : Bool) (i : ℕ) : T
   inside : k < count
   within : i ≤ count
   clear : found ≡ false
-  rest : (clashAny (stands b j k) (left b j i) || twice (left b j (k + 1))) ≡ whole b j
+  rest : (clashAny (standsWhole b j k) (leftWhole b j i) || twice (leftWhole b j (k + 1))) ≡ told b j
 
 abbrev Inv-loop : tie.InvT-loop
 Inv-loop t o j first count found₀ k i₀ found i = Inner t j first count k found i
@@ -49,8 +50,15 @@ abbrev μ-walk : tie.MeasureT-walk
 μ-walk t o j first count found₀ k₀ found k = count - k
 
 -- the test is of the components that stand there
-clashed : (b : List ℕ) (j first k i : ℕ) {t : Bool} → first ≡ firstComponentIn b j → t ≡ clash (piece (subframesOf b) (componentAt b (first + k))) (piece (subframesOf b) (componentAt b (first + i))) → t ≡ clash (stands b j k) (stands b j i)
-clashed b j first k i e h = h ∙ ap (λ (f : ℕ). clash (piece (subframesOf b) (componentAt b (f + k))) (piece (subframesOf b) (componentAt b (f + i)))) e
+clashed : (b : List ℕ) (j first k i : ℕ) {t : Bool} → first ≡ firstComponentIn b j → t ≡ clash (whole (subframesOf b) (componentAt b (first + k))) (whole (subframesOf b) (componentAt b (first + i))) → t ≡ clash (standsWhole b j k) (standsWhole b j i)
+clashed b j first k i e h = h ∙ ap (λ (f : ℕ). clash (whole (subframesOf b) (componentAt b (f + k))) (whole (subframesOf b) (componentAt b (f + i)))) e
+
+-- the last component has none after it
+last : {t : Bool} (l : List Piece) → length l ≤ 1 → twice l ≡ t → false ≡ t
+unfolding twice clashAny
+last [] n h = h
+last (c ∷ []) n h = h
+last (c ∷ d ∷ ds) n h = absurd (omega (arith, n))
 
 sample-at-requires : tie.Need-sample-at-requires Inv-loop μ-loop Inv-walk μ-walk
 sample-at-requires c κs = (c .before .pre .0, c .before .pre .1 .0 .here)
@@ -58,6 +66,9 @@ sample-at-requires c κs = (c .before .pre .0, c .before .pre .1 .0 .here)
 walk-holds : tie.Need-walk-holds Inv-loop μ-loop Inv-walk μ-walk
 walk-holds c =
     record { firsts = c .sample-at .ensures .first-is; counted = c .sample-at .ensures .count-is; within = omega arith; clear = refl; rest = refl }
+
+add-walk : tie.Need-add-walk Inv-loop μ-loop Inv-walk μ-walk
+add-walk c = omega (arith, c .walk .inv, c .before .sample-at .ensures .count-below)
 
 add-i : tie.Need-add-i Inv-loop μ-loop Inv-walk μ-walk
 add-i c = omega (arith, c .before .walk .inv, c .before .before .sample-at .ensures .count-below)
@@ -69,10 +80,10 @@ loop-holds c =
     record {
       firsts = w .firsts;
       counted = w .counted;
-      inside = l;
+      inside = omega (arith, l);
       within = omega (arith, l);
       clear = w .clear;
-      rest = twice-row _ _ _ (left-next (now (c .before .before .before .before .args .t)) (c .before .before .before .before .args .j) (c .before .walk .k) (omega (arith, w, l))) (w .rest);
+      rest = twice-row _ _ _ (whole-next (now (c .before .before .before .before .args .t)) (c .before .before .before .before .args .j) (c .before .walk .k) (omega (arith, w, l))) (w .rest);
     }
 
 add-clashes : tie.Need-add-clashes Inv-loop μ-loop Inv-walk μ-walk
@@ -107,7 +118,7 @@ loop-again c =
       inside = v .inside;
       within = omega (arith, l);
       clear = v .clear;
-      rest = row-apart _ _ _ _ _ (left-next (now (c .before .before .before .before .before .before .before .before .args .t)) (c .before .before .before .before .before .before .before .before .args .j) (c .before .before .before .loop .i) (omega (arith, v .counted, l))) (clashed (now (c .before .before .before .before .before .before .before .before .args .t)) (c .before .before .before .before .before .before .before .before .args .j) (c .before .before .before .before .before .before .sample-at .result .first) (c .before .before .before .before .before .walk .k) (c .before .before .before .loop .i) (v .firsts) (c .before .clashes .ensures)) (v .rest) (c .if1 .left);
+      rest = row-apart _ _ _ _ _ (whole-next (now (c .before .before .before .before .before .before .before .before .args .t)) (c .before .before .before .before .before .before .before .before .args .j) (c .before .before .before .loop .i) (omega (arith, v .counted, l))) (clashed (now (c .before .before .before .before .before .before .before .before .args .t)) (c .before .before .before .before .before .before .before .before .args .j) (c .before .before .before .before .before .before .sample-at .result .first) (c .before .before .before .before .before .walk .k) (c .before .before .before .loop .i) (v .firsts) (c .before .clashes .ensures)) (v .rest) (c .if1 .left);
     }
 
 add-k : tie.Need-add-k Inv-loop μ-loop Inv-walk μ-walk
@@ -124,18 +135,18 @@ walk-again c =
       counted = v .counted;
       within = omega (arith, v .inside);
       clear = v .clear;
-      rest = row-done _ _ _ (left-none (now (c .before .before .before .before .before .before .args .t)) (c .before .before .before .before .before .before .args .j) (c .before .loop .i) (omega (arith, v .counted, c .loop-test .left))) (v .rest);
+      rest = row-done _ _ _ (whole-none (now (c .before .before .before .before .before .before .args .t)) (c .before .before .before .before .before .before .args .j) (c .before .loop .i) (omega (arith, v .counted, c .loop-test .left))) (v .rest);
     }
 
 returns : tie.Need-returns Inv-loop μ-loop Inv-walk μ-walk
 returns c =
     let w = c .before .walk .inv in
-    w .clear ∙ twice-done _ (left-none (now (c .before .before .before .before .args .t)) (c .before .before .before .before .args .j) (c .before .walk .k) (omega (arith, w .counted, c .walk-test .left))) (w .rest)
+    w .clear ∙ last _ (omega (arith, wholes-left (now (c .before .before .before .before .args .t)) (c .before .before .before .before .args .j) (c .before .walk .k), w .counted, c .walk-test .left)) (w .rest)
 
 returns-2 : tie.Need-returns-2 Inv-loop μ-loop Inv-walk μ-walk
 returns-2 c =
     let v = c .before .before .before .loop .inv in
-    row-found _ _ _ _ _ (left-next (now (c .before .before .before .before .before .before .before .before .args .t)) (c .before .before .before .before .before .before .before .before .args .j) (c .before .before .before .loop .i) (omega (arith, v .counted, c .before .before .loop-test .taken))) (clashed (now (c .before .before .before .before .before .before .before .before .args .t)) (c .before .before .before .before .before .before .before .before .args .j) (c .before .before .before .before .before .before .sample-at .result .first) (c .before .before .before .before .before .walk .k) (c .before .before .before .loop .i) (v .firsts) (c .before .clashes .ensures)) (v .rest) (c .if1 .taken)
+    row-found _ _ _ _ _ (whole-next (now (c .before .before .before .before .before .before .before .before .args .t)) (c .before .before .before .before .before .before .before .before .args .j) (c .before .before .before .loop .i) (omega (arith, v .counted, c .before .before .loop-test .taken))) (clashed (now (c .before .before .before .before .before .before .before .before .args .t)) (c .before .before .before .before .before .before .before .before .args .j) (c .before .before .before .before .before .before .sample-at .result .first) (c .before .before .before .before .before .walk .k) (c .before .before .before .loop .i) (v .firsts) (c .before .clashes .ensures)) (v .rest) (c .if1 .taken)
 
 pub named-twice-spec : {M : Type 1} → statement M
 named-twice-spec =
@@ -147,6 +158,7 @@ named-twice-spec =
     μ-walk
     sample-at-requires
     walk-holds
+    add-walk
     add-i
     loop-holds
     add-clashes
