@@ -36,7 +36,7 @@ use Rattle.framing.specs.declared.want.Wanted.{Wanted}
 use Rattle.framing.specs.declared.want.Wanted.the-variants as wanted
 use Rattle.framing.specs.declared.compare.Compared.the-variants as compared
 use Rattle.framing.proofs.WantCases.{wanted-found}
-use Rattle.demands.specs.Refusing.{hasParameter, hasSample}
+use Rattle.framing.specs.Wanted.{hasParameter, hasSample}
 use Rattle.demands.proofs.Unlapped.{baseRead, basePlace, basePlaced, baseCompared, plain-read, plain-place, plain-placed, none-overlaps, plain-compared}
 
 -- the base's definitions

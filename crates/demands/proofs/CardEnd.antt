@@ -36,8 +36,8 @@ use Rattle.carding.proofs.CardCases.{found-same}
 use Rattle.carding.proofs.Untold.{not-told, refused-exactly}
 use Rattle.carding.proofs.Straight.{straight, straight-bit, straight-held}
 use Rattle.demands.specs.Calls.{Calls}
-use Rattle.demands.specs.Refusing.{sampleOf, componentsOf, namedOf, firstBroken, checkRules, cardRules}
-use Rattle.demands.specs.Demands.{HasSample, answerFor, differsFor, copiesAgree, SameAnswers, SameBits, NoOverlap, Demands}
+use Rattle.demands.specs.Refusing.{sampleOf, componentsOf, wholesOf, firstBroken, checkRules, cardRules}
+use Rattle.demands.specs.Demands.{HasSample, answerFor, differsFor, agreeIn, SameAnswers, SameBits, NoOverlap, Demands}
 use Rattle.demands.proofs.Cards.{card-number, Findable, findable}
 use Rattle.demands.proofs.Unbroken.{holds-first}
 
@@ -57,7 +57,7 @@ pub record CardAsSaid (B : Calls) (t y : List ℕ) (from : ℕ) (w : List ℕ) (
 
 -- two cards' streams agree at every bit that some component names, each counted from its own frame's position
 pub record SameStreams (c : Content) (y : List ℕ) (p : ℕ) (z : List ℕ) (q : ℕ) : Type 0 where
-  pub each : (k j : ℕ) → HasSample c k j → (x : Place) → Named (namedOf c k j) x → sourceAt c y p x ≡ sourceAt c z q x
+  pub each : (k j : ℕ) → HasSample c k j → (x : Place) → Named (wholesOf c k j) x → sourceAt c y p x ≡ sourceAt c z q x
 
 module _ (B : Calls) (D : Demands B) where
   -- 26, exactly "for form 1 or for an unknown margin"
@@ -113,13 +113,13 @@ module _ (B : Calls) (D : Demands B) where
           ap (λ (f : List ℕ). join f (componentsOf (view t) q j)) handed-is
           ∙ sym (straight t y p (q - 1) (j - 1) (accepted-ruled t (fits .accepted)) listed sampled)
 
-      bit-straight : (x : Place) → Named (namedOf (view t) q j) x → bitIn handed x ≡ sourceAt (view t) y p x
-      unfolding namedOf
+      bit-straight : (x : Place) → Named (wholesOf (view t) q j) x → bitIn handed x ≡ sourceAt (view t) y p x
+      unfolding wholesOf
       bit-straight x h =
           ap (λ (f : List ℕ). bitIn f x) handed-is
           ∙ sym (straight-bit t y p (q - 1) (j - 1) (accepted-ruled t (fits .accepted)) listed sampled x h)
 
-      agree-straight : copiesAgree (view t) handed q j ≡ heldFrom (view t) y p (sampleOf (view t) q j) (rawAt (view t) y p (q - 1) (j - 1))
+      agree-straight : agreeIn (view t) handed q j ≡ heldFrom (view t) y p (sampleOf (view t) q j) (rawAt (view t) y p (q - 1) (j - 1))
       agree-straight =
           ap₂ (λ (f : List ℕ) (v : ℕ). holds (view t .subframes) f (sampleOf (view t) q j) v) handed-is raw-straight
           ∙ sym (straight-held t y p (q - 1) (j - 1) (accepted-ruled t (fits .accepted)) listed sampled (rawAt (view t) y p (q - 1) (j - 1)))

@@ -49,8 +49,8 @@ use Rattle.carding.specs.Answer.{cardedNumber}
 use Rattle.carding.specs.declared.carded.Carded.the-variants.{Found}
 use Rattle.carding.proofs.Next.{found-stands}
 use Rattle.demands.specs.Calls.{Calls, Kept}
-use Rattle.demands.specs.Refusing.{sampleOf, componentsOf, namedOf, firstBroken, cardRules}
-use Rattle.demands.specs.Demands.{HasSample, meaning, answerFor, copiesAgree as copied, answerIn, Fitting, SheetRefused, One, SheetTaken, NameAnswered, Two, SameAnswers, SameBits, NoOverlap, FrameHanded, FrameFits, Three, Demands}
+use Rattle.demands.specs.Refusing.{sampleOf, componentsOf, wholesOf, firstBroken, cardRules}
+use Rattle.demands.specs.Demands.{HasSample, meaning, answerFor, agreeIn, answerIn, Fitting, SheetRefused, One, SheetTaken, NameAnswered, Two, SameAnswers, SameBits, NoOverlap, FrameHanded, FrameFits, Three, Demands}
 use Rattle.demands.proofs.Numbers.{check-number, read-number, place-number, compare-number, name-number, mnemonic-number}
 use Rattle.demands.proofs.Cards.{card-number, bits-known, bits-unknown, card-unchanged, findable, frame-handed, front-meets, front-passes, found-findable}
 use Rattle.demands.proofs.Parts.{unnamed-part, name-asked, mnemonic-asked, named-part, first-differing}
@@ -254,14 +254,14 @@ module _ (B : Calls) (K : Kept B) where
     passing = accepts-of t (sym (K .checks t) ∙ h .passes)
 
     same-bits : NoOverlap (view t) → SameAnswers B t f g → SameBits t f g
-    unfolding namedOf
+    unfolding wholesOf
     same-bits z a =
         record {
           each = λ p s l. answers-bits t f g passing (h .fits) (n .fits) (record { each = λ p′ s′ k. z .each p′ s′ (listed-of t p′ s′ k) }) (record { each = λ p′ s′ k. sym (K .reads t f p′ s′) ∙ (a .each p′ s′ (listed-of t p′ s′ k) ∙ K .reads t g p′ s′) }) .each p s (lists-of t p s l);
         }
 
     same-answers : SameBits t f g → SameAnswers B t f g
-    unfolding namedOf
+    unfolding wholesOf
     same-answers a =
         record {
           each = λ p s l. K .reads t f p s ∙ (bits-answers t f g passing (h .fits) (n .fits) (record { each = λ p′ s′ k. a .each p′ s′ (listed-of t p′ s′ k) }) .each p s (lists-of t p s l) ∙ sym (K .reads t g p s));
@@ -281,7 +281,7 @@ module _ (B : Calls) (K : Kept B) where
   three =
       record {
         passes = λ s l n h. K .checks (take n (B .made s l)) ∙ (ap (λ (x : List ℕ). checkOf (take n x)) (K .makes s l .1) ∙ check-of (take n (leftOf (judgeOf s) l)) (made-table s l n (sym (K .makes s l .0) ∙ h) .passes));
-        answers = λ t f p s h l. record { raw = join f (componentsOf (view t) p s); wide = width (componentsOf (view t) p s); value = meaning (view t) p s (join f (componentsOf (view t) p s)); agree = copied (view t) f p s; is = read-joined t (h .passes) p s l f (h .fits); below = below-width t (h .passes) p s l f };
+        answers = λ t f p s h l. record { raw = join f (componentsOf (view t) p s); wide = width (componentsOf (view t) p s); value = meaning (view t) p s (join f (componentsOf (view t) p s)); agree = agreeIn (view t) f p s; is = read-joined t (h .passes) p s l f (h .fits); below = below-width t (h .passes) p s l f };
         exactly = λ t f g h n z. (same-bits t f g h n z, same-answers t f g h n);
         alike = λ t f g h n. same-answers t f g h n;
         handed-fits = handed-fits;

@@ -21,7 +21,7 @@ use Rattle.table.specs.Answers.{checkOf, checkNumber, numberedOf, mnemonicIs, c
 use Rattle.table.specs.declared.check.Checked.the-variants as checked
 use Rattle.table.specs.declared.naming.Asked.the-variants as asked
 use Rattle.framing.specs.Fitting.{fitOf}
-use Rattle.framing.specs.Wanted.{fitted, wantedIn, wantedOf}
+use Rattle.framing.specs.Wanted.{hasParameter, hasSample, fitted, wantedIn, wantedOf}
 use Rattle.framing.specs.Reading.{rawOf, widthIs, valueOf, copiesAgree, readFor, readOf, readNumber, sampleRead}
 use Rattle.framing.specs.declared.read.Reading.the-variants.{Sample, OverlapDiffers}
 use Rattle.framing.specs.Placing.{lapsIn, placeFor, placeOf, placeNumber}
@@ -33,7 +33,7 @@ use Rattle.table.specs.declared.reason.Reason.the-variants.{Overlapped, NoTable
 use Rattle.framing.specs.declared.want.Wanted.{Wanted}
 use Rattle.framing.specs.declared.want.Wanted.the-variants as wanted
 use Rattle.framing.specs.declared.compare.Compared.the-variants as compared
-use Rattle.demands.specs.Refusing.{sampleOf, componentsOf, hasParameter, hasSample, asManyWords, firstBroken, checkRules, readRules, placeRules, compareRules, nameRules, mnemonicRules}
+use Rattle.demands.specs.Refusing.{sampleOf, componentsOf, asManyWords, firstBroken, checkRules, readRules, placeRules, compareRules, nameRules, mnemonicRules}
 
 -- the first number below n of which p holds is below n exactly where there is one
 pub found-any : (n : ℕ) (p : ℕ → Bool) → ltb (find n p) n ≡ any n p

@@ -2,21 +2,23 @@
 -- component, then 7: 18 wide, once with copies that agree and once rolled over; and versions of a bench that do not meet them.
 -- Assumes nothing.
 use mathlib.Core.Path.{_≡_, refl, sym, ap, subst, _∙_}
-use mathlib.Core.Bool.{true, false}
+use mathlib.Core.Bool.{Bool, true, false}
 use mathlib.Core.List.{List, [], _∷_}
-use Prim.Native.Nat.{ℕ}
+use Prim.Native.Nat.{ℕ, _*_, _^_}
 use native.Mathlib.Omega.{arith}
-use lib.IntN.{ℤ, pos}
+use lib.ListN.{length}
+use lib.IntN.{ℤ, pos, negsuc}
 use Rattle.bits.specs.Word.{bitAt, field}
 use Rattle.bits.specs.Sign.{signed}
-use Rattle.lay.specs.Below.{every}
+use Rattle.lay.specs.Below.{every, sum as tally}
 use Rattle.lay.specs.Bytes.{same}
 use Rattle.lay.specs.Quoted.{quoted}
+use Rattle.lay.proofs.Tests.{differ}
 use Rattle.ratio.specs.Ratio.{gcdIn, gcd, lowest}
 use Rattle.sample.specs.Joining.{partOf, join, width}
 use Rattle.sample.specs.Clash.{clash, clashAny, twice}
 use Rattle.sample.specs.Flat.{sum, before, position}
-use Rattle.model.specs.Content.{Content, Parameter, allSamples, firstSample, firstComponent}
+use Rattle.model.specs.Content.{Content, Parameter, component, allSamples, firstSample, firstComponent}
 use Rattle.model.specs.Forms.{newest, sheetLimits}
 use Rattle.model.specs.Samples.{wordCounts, whole, piece, wholes, pieces, widthOf, overlapped, placeIn, holdsAt, holds}
 use Rattle.model.specs.Rules.{secondsOk, marginOk, subframeOk, componentOk, nextBits, overlapOk, sampleOk, byteOk, textOk, parameterOk}
@@ -32,7 +34,7 @@ use Rattle.framing.specs.Placing.{placeNumber}
 use Rattle.framing.specs.declared.read.Reading.the-variants.{Sample, OverlapDiffers}
 use Rattle.framing.specs.declared.place.Placed.the-variants.{Done}
 use Rattle.demands.specs.Calls.{Calls}
-use Rattle.demands.specs.Refusing.{sampleOf, componentsOf, namedOf, firstBroken, placeRules}
+use Rattle.demands.specs.Refusing.{sampleOf, componentsOf, wholesOf, firstBroken, placeRules}
 use Rattle.demands.specs.Demands.{HasSample, meaning, answerIn, Fitting, Demands}
 use Rattle.demands.proofs.Told.{raw-in, same-checked}
 
@@ -71,6 +73,10 @@ agreeing = 583 ∷ 2048 ∷ 0 ∷ 1 ∷ []
 abbrev rolled : List ℕ
 rolled = 583 ∷ 0 ∷ 0 ∷ 1 ∷ []
 
+-- the highest bit of the upper word is the sign
+abbrev minus : List ℕ
+minus = 583 ∷ 4085 ∷ 0 ∷ 127 ∷ []
+
 lapped-lawful : lawful sheetLimits lappedWall ≡ true
 unfolding every same gcdIn gcd lowest width clash clashAny twice sum before position allSamples firstSample firstComponent wordCounts whole piece wholes pieces widthOf secondsOk marginOk subframeOk componentOk nextBits overlapOk sampleOk byteOk textOk parameterOk namedApart newlyNamed identifierOk identifiedApart identifies taken identifiersOk lawful
 lapped-lawful = refl
@@ -91,6 +97,14 @@ rolled-meets : meets lappedWall rolled ≡ true
 unfolding every sum before frameWords wordsOk meets wordCounts
 rolled-meets = refl
 
+minus-meets : meets lappedWall minus ≡ true
+unfolding every sum before frameWords wordsOk meets wordCounts
+minus-meets = refl
+
+minus-answer : answerIn lappedWall minus 2 1 ≡ Sample 262133 18 (negsuc 10)
+unfolding bitAt field signed partOf join width sum before position wordCounts whole piece pieces placeIn holdsAt holds componentsOf meaning
+minus-answer = refl
+
 agreeing-answer : answerIn lappedWall agreeing 2 1 ≡ Sample 2048 18 (pos 2048)
 unfolding bitAt field signed partOf join width sum before position wordCounts whole piece pieces placeIn holdsAt holds componentsOf meaning
 agreeing-answer = refl
@@ -103,9 +117,27 @@ lapped-listed : HasSample lappedWall 2 1
 lapped-listed = record { parameter-least = omega arith; parameter-most = omega arith; sample-least = omega arith; sample-most = omega arith }
 
 -- all bits side by side, as if nothing overlapped: 19 of them
-beside : join agreeing (namedOf lappedWall 2 1) ≡ 6144
-unfolding bitAt field partOf join sum before position wordCounts whole wholes namedOf
+beside : join agreeing (wholesOf lappedWall 2 1) ≡ 6144
+unfolding bitAt field partOf join sum before position wordCounts whole wholes wholesOf
 beside = refl
+
+-- each component's bits, all of them, added at their places
+abbrev added : Content → List ℕ → ℕ → ℕ → ℕ
+added c f p s =
+    tally (length (sampleOf c p s .components)) (λ k.
+    partOf f (whole (c .subframes) (component (sampleOf c p s) k)) * 2 ^ placeIn (c .subframes) (sampleOf c p s) k)
+
+both-added : added lappedWall agreeing 2 1 ≡ 4096
+unfolding bitAt field partOf sum before position wordCounts whole piece placeIn
+both-added = refl
+
+-- the lowest component is its bits of raw
+abbrev lowestHeld : Content → List ℕ → ℕ → ℕ → ℕ → Bool
+lowestHeld c f p s raw = holdsAt (c .subframes) f (sampleOf c p s) raw 0
+
+lower-differs : lowestHeld lappedWall rolled 2 1 2048 ≡ false
+unfolding bitAt field partOf sum before position wordCounts whole piece placeIn holdsAt
+lower-differs = refl
 
 module _ (B : Calls) (D : Demands B) where
   says-lapped : view lappedTable ≡ lappedWall
@@ -132,16 +164,33 @@ module _ (B : Calls) (D : Demands B) where
   pub reads-rolled : B .read lappedTable rolled 2 1 ≡ OverlapDiffers 2048 18 (pos 2048)
   reads-rolled = reads rolled rolled-meets ∙ rolled-answer
 
+  -- minus eleven: 4085 is 12 bits of it, and 127 the 7 above, one of them in both
+  pub reads-minus : B .read lappedTable minus 2 1 ≡ Sample 262133 18 (negsuc 10)
+  reads-minus = reads minus minus-meets ∙ minus-answer
+
   -- ---- a bench that never tells copies that differ
 
   pub copies-told : ((t f : List ℕ) (p s : ℕ) (r w : ℕ) (v : ℤ) → B .read t f p s ≡ OverlapDiffers r w v → ⊥) → ⊥
   copies-told u = u lappedTable rolled 2 1 2048 18 (pos 2048) reads-rolled
 
   -- one that joins all bits side by side: the overlap ignored
-  pub overlap-not-ignored : ((t f : List ℕ) (p s : ℕ) → Fitting B t f → HasSample (view t) p s → raw-in (B .read t f p s) ≡ join f (namedOf (view t) p s)) → ⊥
+  pub overlap-not-ignored : ((t f : List ℕ) (p s : ℕ) → Fitting B t f → HasSample (view t) p s → raw-in (B .read t f p s) ≡ join f (wholesOf (view t) p s)) → ⊥
   overlap-not-ignored u =
       let e = u lappedTable agreeing 2 1 (fitting agreeing agreeing-meets) there in
-      omega (arith, e, ap raw-in reads-agreeing, ap (λ (c : Content). join agreeing (namedOf c 2 1)) says-lapped ∙ beside)
+      omega (arith, e, ap raw-in reads-agreeing, ap (λ (c : Content). join agreeing (wholesOf c 2 1)) says-lapped ∙ beside)
+
+  -- one that adds the two copies
+  pub copies-not-added : ((t f : List ℕ) (p s : ℕ) → Fitting B t f → HasSample (view t) p s → raw-in (B .read t f p s) ≡ added (view t) f p s) → ⊥
+  copies-not-added u =
+      let e = u lappedTable agreeing 2 1 (fitting agreeing agreeing-meets) there in
+      omega (arith, e, ap raw-in reads-agreeing, ap (λ (c : Content). added c agreeing 2 1) says-lapped ∙ both-added)
+
+  -- one that lets the lower copy stand where they differ: the lowest component always is its bits of raw
+  pub lower-not-standing : ((t f : List ℕ) (p s : ℕ) → Fitting B t f → HasSample (view t) p s → lowestHeld (view t) f p s (raw-in (B .read t f p s)) ≡ true) → ⊥
+  lower-not-standing u =
+      differ
+      (ap (lowestHeld (view lappedTable) rolled 2 1) (ap raw-in reads-rolled) ∙ ap (λ (c : Content). lowestHeld c rolled 2 1 2048) says-lapped ∙ lower-differs)
+      (u lappedTable rolled 2 1 (fitting rolled rolled-meets) there)
 
   -- one that places into an overlapped sample: of whatever table, frame and value, it is 10 as soon as the sample is listed
   pub overlap-not-placed : ((t f : List ℕ) (p s v : ℕ) → Fitting B t f → HasSample (view t) p s → B .place t f p s v ≡ Done) → ⊥

@@ -23,7 +23,7 @@ use Rattle.framing.specs.declared.place.Placed.the-variants as placing
 use Rattle.framing.specs.declared.compare.Compared.{Compared}
 use Rattle.framing.specs.declared.compare.Compared.the-variants as compared
 use Rattle.demands.specs.Refusing.{componentsOf}
-use Rattle.demands.specs.Demands.{answerFor, differsFor, copiesAgree, answerIn, FirstDiffering}
+use Rattle.demands.specs.Demands.{answerFor, differsFor, agreeIn, answerIn, FirstDiffering}
 
 -- the raw value and the value that are answered, whether the copies agree or not
 abbrev pub raw-in : Reading → ℕ
@@ -37,7 +37,7 @@ value-in (reading.OverlapDiffers r w v) = v
 value-in (reading.Refused q) = pos 0
 
 pub answer-raw : (c : Content) (f : List ℕ) (p s : ℕ) → raw-in (answerIn c f p s) ≡ join f (componentsOf c p s)
-answer-raw c f p s = go (copiesAgree c f p s)
+answer-raw c f p s = go (agreeIn c f p s)
   where
     go : (t : Bool) → raw-in (cond t (answerFor c p s (join f (componentsOf c p s))) (differsFor c p s (join f (componentsOf c p s)))) ≡ join f (componentsOf c p s)
     go true = refl

@@ -13,7 +13,8 @@ use Rattle.model.specs.Content.{parameter, parameters}
 use Rattle.model.specs.Frame.{frameWords, wordsOk, meets}
 use Rattle.model.specs.Samples.{overlapped}
 use Rattle.model.specs.View.{view}
-use Rattle.demands.specs.Refusing.{sampleOf, hasParameter, hasSample, notOverlapped, asManyWords, fitsWidth, firstBroken, readRules, placeRules}
+use Rattle.framing.specs.Wanted.{hasParameter, hasSample}
+use Rattle.demands.specs.Refusing.{sampleOf, notOverlapped, asManyWords, fitsWidth, firstBroken, readRules, placeRules}
 use Rattle.demands.specs.Demands.{HasSample}
 
 pub holds-first : (b : Bool) (m n : ℕ) → 0 < n → cond b m n ≡ 0 → (b ≡ true) × (m ≡ 0)

@@ -35,7 +35,7 @@ use Rattle.framing.specs.Placing.{placeNumber}
 use Rattle.framing.specs.Comparing.{comparedNumber}
 use Rattle.framing.specs.declared.compare.Compared.the-variants as compared
 use Rattle.demands.specs.Calls.{Calls}
-use Rattle.demands.specs.Refusing.{Rule, rule, componentsOf, namedOf, firstBroken, placeRules}
+use Rattle.demands.specs.Refusing.{Rule, rule, componentsOf, wholesOf, firstBroken, placeRules}
 use Rattle.demands.specs.Demands.{HasSample, answerFor, Fitting, FirstDiffering, Demands}
 use Rattle.demands.proofs.Told.{raw-in, answer-raw, one-first}
 use Rattle.demands.proofs.Unbroken.{readable}
@@ -80,8 +80,8 @@ second-named : Named (componentsOf wall 2 1) second
 unfolding Named sum before position wordCounts piece pieces componentsOf
 second-named = inr (inl (refl, omega arith, omega arith))
 
-second-whole : Named (namedOf wall 2 1) second
-unfolding Named sum before position wordCounts whole wholes namedOf
+second-whole : Named (wholesOf wall 2 1) second
+unfolding Named sum before position wordCounts whole wholes wholesOf
 second-whole = inr (inl (refl, omega arith, omega arith))
 
 second-differs : bitIn words second ≡ bitIn lower second → ⊥
@@ -116,8 +116,8 @@ answer-zero c p s v = refl
 abbrev lowest : Place
 lowest = record { word = 0; bit = 0 }
 
-lowest-named : Named (namedOf wall 1 1) lowest
-unfolding Named sum before position wordCounts whole wholes namedOf
+lowest-named : Named (wholesOf wall 1 1) lowest
+unfolding Named sum before position wordCounts whole wholes wholesOf
 lowest-named = inl (refl, omega arith, omega arith)
 
 lowest-differs : bitIn words lowest ≡ bitIn others lowest → ⊥
@@ -139,7 +139,7 @@ module _ (B : Calls) (D : Demands B) where
   pub frames-told-apart : ((t f g : List ℕ) (p s : ℕ) → B .read t f p s ≡ B .read t g p s) → ⊥
   frames-told-apart u =
       let x = D .three .exactly (wallTable B) words others (fitting B D words words-meet) (fitting B D others others-meet) (plain B D) .0 (record { each = λ p s l. u (wallTable B) words others p s }) in
-      lowest-differs (x .each 1 1 (there B D 1 1 sync-listed) lowest (subst (λ (c : Content). Named (namedOf c 1 1) lowest) (sym (says-wall B D)) lowest-named))
+      lowest-differs (x .each 1 1 (there B D 1 1 sync-listed) lowest (subst (λ (c : Content). Named (wholesOf c 1 1) lowest) (sym (says-wall B D)) lowest-named))
 
   -- a placing that writes nothing
   pub something-placed : ((t f : List ℕ) (p s v : ℕ) → B .placed t f p s v ≡ f) → ⊥
@@ -157,7 +157,7 @@ module _ (B : Calls) (D : Demands B) where
   all-components-known u =
       let same : (p s : ℕ) → firstPart words (componentsOf (view (wallTable B)) p s) ≡ firstPart lower (componentsOf (view (wallTable B)) p s) = λ p s. subst (λ (c : Content). firstPart words (componentsOf c p s) ≡ firstPart lower (componentsOf c p s)) (sym (says-wall B D)) (first-same p s) in
       let x = D .three .exactly (wallTable B) words lower (fitting B D words words-meet) (fitting B D lower lower-meets) (plain B D) .0 (record { each = λ p s l. u (wallTable B) words lower p s (same p s) }) in
-      second-differs (x .each 2 1 (there B D 2 1 pitch-listed) second (subst (λ (c : Content). Named (namedOf c 2 1) second) (sym (says-wall B D)) second-whole))
+      second-differs (x .each 2 1 (there B D 2 1 pitch-listed) second (subst (λ (c : Content). Named (wholesOf c 2 1) second) (sym (says-wall B D)) second-whole))
 
   -- placing into the first component only: the bits of the others stay
   pub all-components-placed : ((t f : List ℕ) (p s v : ℕ) → Fitting B t f → HasSample (view t) p s

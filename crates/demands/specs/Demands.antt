@@ -40,7 +40,7 @@ use Rattle.carding.specs.Answer.{cardedNumber}
 use Rattle.carding.specs.declared.carded.Carded.{Carded}
 use Rattle.carding.specs.declared.carded.Carded.the-variants.{Found}
 use Rattle.demands.specs.Calls.{Calls}
-use Rattle.demands.specs.Refusing.{sampleOf, componentsOf, namedOf, firstBroken, checkRules, readRules, placeRules, compareRules, nameRules, mnemonicRules, cardRules, bitsRules}
+use Rattle.demands.specs.Refusing.{sampleOf, componentsOf, wholesOf, firstBroken, checkRules, readRules, placeRules, compareRules, nameRules, mnemonicRules, cardRules, bitsRules}
 
 -- ---- words that the demands use
 
@@ -63,13 +63,13 @@ abbrev pub differsFor : Content → ℕ → ℕ → ℕ → Reading
 differsFor c p s raw = OverlapDiffers raw (width (componentsOf c p s)) (meaning c p s raw)
 
 -- the copies agree: every component is its bits of what they join to
-abbrev pub copiesAgree : Content → List ℕ → ℕ → ℕ → Bool
-copiesAgree c f p s = holds (c .subframes) f (sampleOf c p s) (join f (componentsOf c p s))
+abbrev pub agreeIn : Content → List ℕ → ℕ → ℕ → Bool
+agreeIn c f p s = holds (c .subframes) f (sampleOf c p s) (join f (componentsOf c p s))
 
 -- and so what a read of it answers in the frame f
 abbrev pub answerIn : Content → List ℕ → ℕ → ℕ → Reading
 answerIn c f p s =
-    cond (copiesAgree c f p s)
+    cond (agreeIn c f p s)
     (answerFor c p s (join f (componentsOf c p s)))
     (differsFor c p s (join f (componentsOf c p s)))
 
@@ -205,7 +205,7 @@ pub record SameAnswers (B : Calls) (t f g : List ℕ) : Type 0 where
   pub each : (p s : ℕ) → HasSample (view t) p s → B .read t f p s ≡ B .read t g p s
 
 pub record SameBits (t f g : List ℕ) : Type 0 where
-  pub each : (p s : ℕ) → HasSample (view t) p s → (q : Place) → Named (namedOf (view t) p s) q → bitIn f q ≡ bitIn g q
+  pub each : (p s : ℕ) → HasSample (view t) p s → (q : Place) → Named (wholesOf (view t) p s) q → bitIn f q ≡ bitIn g q
 
 -- no sample that the table lists overlaps
 pub record NoOverlap (c : Content) : Type 0 where

@@ -14,6 +14,7 @@ use Rattle.model.specs.Frame.{frameWords, wordsOk}
 use Rattle.model.specs.Forms.{formIn}
 use Rattle.model.specs.Accepts.{accepts}
 use Rattle.model.specs.View.{view}
+use Rattle.framing.specs.Wanted.{hasParameter, hasSample}
 use Rattle.framing.specs.Comparing.{differsIn}
 use Rattle.carding.specs.Search.{soughtAt}
 use Rattle.carding.specs.Answer.{longestStream, marginsKnown}
@@ -32,7 +33,7 @@ unfoldable pub firstBroken : List Rule → ℕ
 firstBroken [] = 0
 firstBroken (r ∷ rs) = cond (r .holds) (firstBroken rs) (r .number)
 
--- ---- what must hold
+-- ---- what must hold; 21 and 22 are hasParameter and hasSample
 
 -- sample s of parameter p, both counted from 1
 abbrev pub sampleOf : Content → ℕ → ℕ → Sample
@@ -42,15 +43,8 @@ sampleOf c p s = sample (parameter c (p - 1)) (s - 1)
 unfoldable pub componentsOf : Content → ℕ → ℕ → List Component
 componentsOf c p s = pieces (c .subframes) (sampleOf c p s)
 
-unfoldable pub namedOf : Content → ℕ → ℕ → List Component
-namedOf c p s = wholes (c .subframes) (sampleOf c p s)
-
--- 21, "no such parameter", and 22, "no such sample"
-abbrev pub hasParameter : Content → ℕ → Bool
-hasParameter c p = leb 1 p && leb p (parameters c)
-
-abbrev pub hasSample : Content → ℕ → ℕ → Bool
-hasSample c p s = leb 1 s && leb s (length (parameter c (p - 1) .samples))
+unfoldable pub wholesOf : Content → ℕ → ℕ → List Component
+wholesOf c p s = wholes (c .subframes) (sampleOf c p s)
 
 -- "an empty or unknown mnemonic gives 21"
 abbrev pub hasMnemonic : Content → List ℕ → Bool

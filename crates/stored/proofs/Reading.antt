@@ -26,8 +26,9 @@ use Rattle.model.specs.Facts.{Formed}
 use Rattle.model.proofs.Rows.{each-part, known-sound}
 use Rattle.model.proofs.Laying.{formed-sound}
 use Rattle.stored.specs.Entry.{CountsOf, countsBy, Few, StartsBy, StartsOf, OpenedOf}
-use Rattle.stored.specs.Shapes.{boundsOf, limitsBy}
+use Rattle.stored.specs.Shapes.{componentShape, boundsOf, limitsBy}
 use Rattle.stored.specs.declared.forms.Bounds.{Bounds}
+use Rattle.stored.specs.declared.forms.ComponentShape.{ComponentShape}
 use Rattle.stored.specs.declared.items.Counts.{Counts}
 use Rattle.stored.specs.declared.items.Starts.{Starts}
 use Rattle.stored.specs.declared.items.Opened.{Opened}
@@ -179,6 +180,17 @@ module _ {b : List ℕ} {o : Opened} (z : OpenedOf b o) (p i start size : ℕ) (
       let v : size * i ≡ span (slotsOf (layoutIn b) p) * i = ap (λ (s : ℕ). s * i) e in
       let n = entry-ends (layoutIn b) (countIn b) p i (omega (arith, sound-here .many)) l in
       record { is = omega arith; ends = omega (arith, z .sized .fits) }
+
+-- a component's, by its shape
+pub shape-here : {b : List ℕ} {o : Opened} {s : ComponentShape} → OpenedOf b o → s ≡ componentShape (layoutOf (o .form)) → s ≡ componentShape (layoutIn b)
+shape-here z e = e ∙ ap componentShape (layout-here (z .sized .formed) (z .form-is))
+
+module _ {b : List ℕ} {o : Opened} (z : OpenedOf b o) (k : ℕ) (l : k < countIn b componentPart) {s : ComponentShape} (q : s ≡ componentShape (layoutIn b)) where
+  pub component-small : o .starts .components + s .size * k < 4294967296
+  component-small = entry-small z componentPart _ _ _ (omega arith) l (z .starts .components-is) (ap (λ (s : ComponentShape). s .size) q)
+
+  pub component-here : EntryHere b componentPart k (o .starts .components + s .size * k)
+  component-here = entry-here z componentPart _ _ _ (omega arith) l (z .starts .components-is) (ap (λ (s : ComponentShape). s .size) q)
 
 module _ {b : List ℕ} {p i at : ℕ} (h : EntryHere b p i at) (k : ℕ) (x : Place) (e : x ≡ placeOf (slotsOf (layoutIn b) p) k) where
   pub item-within : at + x .at + x .wide ≤ length b
