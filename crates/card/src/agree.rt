@@ -14,6 +14,7 @@ ghost use Rattle.carding.specs.Search.{readsAt, agreesAt};
 ghost use Rattle.card.specs.Promise.{BeginsOf};
 use super::spans::run_at;
 use model::limits::SUBFRAMES;
+use stored::flags::has_identifier;
 use stored::items::Opened;
 use stored::items::parameter_at;
 use stored::items::sample_at;
@@ -68,7 +69,7 @@ fn reads_at(
     ensures { λ r. ⌜ r ≡ readsAt (view (now (t .entry))) (frameAt (view (now (t .entry))) (now (stream .entry)) p) i ⌝ }
 {
     let e = parameter_at(t, o, i);
-    if e.flags / 2 != 1 {
+    if !has_identifier(e.flags) {
         return true;
     }
     holds_in(t, o, stream, p, e.first, begins, e.value as u64)

@@ -12,6 +12,7 @@ ghost use Rattle.card.specs.Sieve.{Shaped, SieveOf, With, siftsAt, rows,
 use super::agree::agrees;
 use super::spans::run_at;
 use model::limits::SUBFRAMES;
+use stored::flags::has_identifier;
 use stored::items::Opened;
 use stored::items::parameter_at;
 use stored::items::sample_at;
@@ -74,7 +75,7 @@ fn sift_more(t: &[u8], o: Opened, i: usize, begins: &[usize; SUBFRAMES], sieve: 
     ensures { λ r. ⌜ SieveOf (now (t .entry)) (rowsOf r) ⌝ }
 {
     let e = parameter_at(t, o, i);
-    if e.flags / 2 != 1 {
+    if !has_identifier(e.flags) {
         return sieve;
     }
     let m = sample_at(t, o, e.first);

@@ -3,7 +3,6 @@ pub mod SixteenLaws
 pub mod Growing
 pub mod TestLaws
 pub mod SamplingLaws
-pub mod KeptLaws
 pub mod FittingLaws
 pub mod ColumnLaws
 pub mod Arrays

@@ -54,17 +54,14 @@ pub fn one_if(t: bool) -> u64
     if t { 1 } else { 0 }
 }
 
-// Whether a value fits so many bits: none is left of it when as many are taken away.
+// Whether a value fits so many bits. Every value here fits 64.
 fn fits(value: u64, width: u64) -> bool
     ensures { λ r. ⌜ r ≡ ltb value (2 ^ width) ⌝ }
 {
-    let mut left = value;
-    let mut more = width;
-    while 0 < more {
-        left /= 2;
-        more -= 1;
+    if 64 <= width {
+        return true;
     }
-    left == 0
+    value < bits::power_of_two(width as u32)
 }
 
 // Whether the open parameter is an identifier that alone is in order.

@@ -51,7 +51,7 @@ pub negative-put : (out after : List ℕ) (o r n : ℕ) (v t : ℤ) → o + 21 �
     → (r ≡ o + length (valueText v)) × (after ≡ put out o (valueText v))
 negative-put out after o r n v t h l e p q a =
     let w = negative-text v t n l e p in
-    let s : set out o minus ≡ put out o (minus ∷ []) = put-one out o minus (omega arith) in
+    let s : set out o minus ≡ put out o (minus ∷ []) = put-one out o minus minus refl (omega arith) in
     let both : after ≡ put out o ((minus ∷ []) ++ decimalText (n + 1)) = put-then out (set out o minus) after o (minus ∷ []) (decimalText (n + 1)) (o + 1) s a refl (omega (arith, decimal-short (n + 1), h)) in
     (omega (arith, q, ap length w), both ∙ ap (put out o) (sym w))
 

@@ -4,6 +4,8 @@ use lay::item::put_item;
 use lay::item::put_long;
 use lineforms::said::Pair;
 use lineforms::said::Part;
+use stored::flags::flag_of;
+use stored::flags::flags_of;
 use stored::forms::FORM_AT;
 use stored::forms::FORM_WIDE;
 use stored::forms::NEWEST;
@@ -19,7 +21,7 @@ ghost use Prim.Native.Nat.{_+_, _*_, _≤_};
 ghost use lib.ListN.{length};
 ghost use Rattle.lay.specs.Bytes.{put};
 ghost use Rattle.model.specs.Items.{subframePart, parameterPart, samplePart, componentPart};
-ghost use Rattle.model.specs.Write.{bit, subframeValues, componentValues};
+ghost use Rattle.model.specs.Write.{subframeValues, componentValues};
 ghost use Rattle.laying.specs.Parts.{size, entry, headSize, header};
 ghost use Rattle.maker.specs.Entries.{headBy, saidSubframe, saidComponent, parameterBy, sampleBy};
 
@@ -37,19 +39,13 @@ pub struct Described {
     pub value: u64,
 }
 
-fn bit_of(t: bool) -> usize
-    ensures { λ r. ⌜ (r ≡ bit t) × (r ≤ 1) ⌝ }
-{
-    if t { 1 } else { 0 }
-}
-
 // The header: so many entries, and the parts' beginnings. An item that the form lacks is 0 bytes wide.
 pub fn put_header(out: &mut [u8], n: Counts, a: Starts, total: usize, sequential: bool)
     requires { ⌜ headSize ≤ length (now out) ⌝ }
     ensures { λ _. ⌜ now (out .exit) ≡ put (now (out .entry)) 0 (header (headBy n a total sequential)) ⌝ }
 {
     let s = header_shape(NEWEST);
-    let flags = bit_of(sequential);
+    let flags = flag_of(sequential);
     put_item(out, 0, s.total, total);
     put_item(
         out,
@@ -94,7 +90,7 @@ pub fn put_parameter(out: &mut [u8], start: usize, i: usize, d: Described)
 {
     let s = parameter_shape(NEWEST);
     let o = start + s.size * i;
-    let flags = bit_of(d.signed) + 2 * bit_of(d.identifier);
+    let flags = flags_of(d.signed, d.identifier);
     put_item(out, o, s.name, d.name);
     put_item(out, o, s.mnemonic, d.mnemonic);
     put_item(out, o, s.identification, d.identification);

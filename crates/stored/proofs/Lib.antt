@@ -1,3 +1,4 @@
 pub mod FormCases
 pub mod Reading
 pub mod Openings
+pub mod Flagged

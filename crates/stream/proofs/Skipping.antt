@@ -56,8 +56,8 @@ pub record Passed (y : List ℕ) (k n want a : ℕ) : Type 0 where
   pub unlike : (j : ℕ) → k ≤ j → j < 8 * a → bitsFrom y j n ≡ want → ⊥
   pub near : a ≤ k / 8 + length y
 
-pub passed-none : (y : List ℕ) (k n want : ℕ) → Passed y k n want (k / 8)
-passed-none y k n want = record { since = omega arith; unlike = λ j l m e. omega arith; near = omega arith }
+pub passed-none : (y : List ℕ) (k n want a : ℕ) → a ≡ k / 8 → Passed y k n want a
+passed-none y k n want a e = record { since = omega arith; unlike = λ j l m q. omega (arith, e, l, m); near = omega arith }
 
 module _ (y : List ℕ) (k n want a : ℕ) (h : Passed y k n want a) where
   -- all that stands before k's bit in byte a has passed

@@ -2,7 +2,7 @@
 pub mod skip;
 
 ghost use mathlib.Core.Path.{_≡_};
-ghost use Prim.Native.Nat.{_≤_, _<_, _^_};
+ghost use Prim.Native.Nat.{_/_, _%_, _≤_, _<_, _^_};
 ghost use lib.ListN.{getD};
 ghost use Rattle.stream.specs.Stream.{bitsFrom};
 ghost use Rattle.stream.specs.Promise.{Window};
@@ -26,8 +26,21 @@ fn window_at(stream: &[u8], a: usize) -> u64
         return lay::four_at(stream, a) as u64;
     }
     byte_or_zero(stream, a)
-        + 256 * byte_or_zero(stream, a + 1)
-        + 65536 * byte_or_zero(stream, a + 2)
+        + bits::raised(byte_or_zero(stream, a + 1), 8)
+        + bits::raised(byte_or_zero(stream, a + 2), 16)
+}
+
+// The byte in which bit k of a stream stands, and which bit of it that is.
+fn byte_of(k: usize) -> usize
+    ensures { λ r. ⌜ r ≡ k / 8 ⌝ }
+{
+    bits::bits_above(k as u64, 3) as usize
+}
+
+fn bit_of(k: usize) -> u32
+    ensures { λ r. ⌜ r ≡ k % 8 ⌝ }
+{
+    bits::low_bits_of(k as u64, 3) as u32
 }
 
 // The number of n bits that stands in the stream from bit k on: 24 bits hold any 16 of them from any bit of a byte on.
@@ -35,5 +48,5 @@ pub fn bits_at(stream: &[u8], k: usize, n: u32) -> u64
     requires { ⌜ n ≤ 16 ⌝ }
     ensures { λ r. ⌜ (r ≡ bitsFrom (now (stream .entry)) k n) × (r < 2 ^ n) ⌝ }
 {
-    bits::field_of(window_at(stream, k / 8), (k % 8) as u32, n)
+    bits::field_of(window_at(stream, byte_of(k)), bit_of(k), n)
 }

@@ -1,4 +1,5 @@
 // Positions of a stream passed over, eight with each load.
+use super::byte_of;
 ghost use Prim.Native.Nat.{_/_, _≤_, _<_};
 ghost use lib.ListN.{length};
 ghost use Rattle.stream.specs.Promise.{Skips, EightUnlike, FirstLike, BitIn};
@@ -67,7 +68,7 @@ pub fn skip_unlike(stream: &[u8], k: usize, n: u32, want: u64) -> usize
     requires { ⌜ (length (now stream) ≤ 65536) × (k < 8589934592) × (n ≤ 16) ⌝ }
     ensures { λ r. ⌜ Skips (now (stream .entry)) k n want r ⌝ }
 {
-    let mut a = k / 8;
+    let mut a = byte_of(k);
     while a + 4 <= stream.len() {
         let v = lay::four_at(stream, a) as u64;
         if !eight_unlike(v, n, want) {

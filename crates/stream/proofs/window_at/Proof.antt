@@ -33,8 +33,8 @@ add-byte-or-zero c = search needs
 byte-or-zero-requires-2 : tie.Need-byte-or-zero-requires-2
 byte-or-zero-requires-2 c κs = search needs
 
-mul-result : tie.Need-mul-result
-mul-result c = search needs
+raised-requires : tie.Need-raised-requires
+raised-requires c κs = search needs
 
 add-result : tie.Need-add-result
 add-result c = search needs
@@ -45,21 +45,22 @@ add-byte-or-zero-2 c = search needs
 byte-or-zero-requires-3 : tie.Need-byte-or-zero-requires-3
 byte-or-zero-requires-3 c κs = search needs
 
-mul-result-2 : tie.Need-mul-result-2
-mul-result-2 c = search needs
+raised-requires-2 : tie.Need-raised-requires-2
+raised-requires-2 c κs = search needs
 
 add-result-2 : tie.Need-add-result-2
 add-result-2 c = search needs
 
 returns-2 : tie.Need-returns-2
 returns-2 c =
-    let a = c .before .before .before .before .before .args in
+    let a = c .before .before .before .before .before .before .before .args in
     let at = a .a in
-    let known = c .before .before .before .before .shared-slice-known .given in
-    let e0 = c .before .before .byte-or-zero .ensures .0 in
-    let e1 = c .before .byte-or-zero2 .ensures .0 in
-    let e2 = c .byte-or-zero3 .ensures .0 in
-    window-three (now (a .stream)) at _ (omega (arith, known at), (omega (arith, known (at + 1)), (omega (arith, known (at + 1 + 1)), tt))) (rw (e0, e1, e2))
+    let known = c .before .before .before .before .before .before .shared-slice-known .given in
+    let e0 = c .before .before .before .before .byte-or-zero .ensures .0 in
+    let e1 = c .before .before .before .byte-or-zero2 .ensures .0 in
+    let e2 = c .before .byte-or-zero3 .ensures .0 in
+    window-three (now (a .stream)) at _ (omega (arith, known at), (omega (arith, known (at + 1)), (omega (arith, known (at + 1 + 1)), tt)))
+    (omega (arith, e0, e1, e2, c .before .before .raised .ensures, c .raised2 .ensures))
 
 pub window-at-spec : {M : Type 1} → statement M
 window-at-spec =
@@ -71,10 +72,10 @@ window-at-spec =
     byte-or-zero-requires
     add-byte-or-zero
     byte-or-zero-requires-2
-    mul-result
+    raised-requires
     add-result
     add-byte-or-zero-2
     byte-or-zero-requires-3
-    mul-result-2
+    raised-requires-2
     add-result-2
     returns-2)

@@ -1,12 +1,13 @@
 -- An identifier's components are compared in the stream.
 use mathlib.Core.Path.{_≡_, sym, ap, ap₂, _∙_}
 use denote.Ref.{now}
-use Prim.Native.Nat.{ℕ, _+_, _/_}
+use Prim.Native.Nat.{_+_}
 use native.Mathlib.Omega.{arith}
-use borrow.Author.Tests.{eq-eqb, ne-eqb}
+use borrow.Author.Tests.{not-true, not-false}
 use Rattle.model.specs.Samples.{holds}
 use Rattle.model.specs.Stored.{firstSampleIn}
 use Rattle.model.specs.View.{sampleAt, view}
+use Rattle.stored.proofs.Flagged.{identifier-flag}
 use Rattle.rules.specs.Ruled.{subframesOf}
 use Rattle.rules.proofs.Identifying.{first}
 use Rattle.framing.proofs.Listed.{listed-at, first-one, here-at, law-at}
@@ -19,10 +20,13 @@ use Rattle.card.proofs.agree.reads_at.Tie as tie
 parameter-at-requires : tie.Need-parameter-at-requires
 parameter-at-requires c κs = search needs
 
+has-identifier-requires : tie.Need-has-identifier-requires
+has-identifier-requires c κs = search needs
+
 returns : tie.Need-returns
 returns c =
     let l = c .before .before .before .before .before .pre .1 .1 .0 in
-    sym (plain-reads _ _ _ l (ne-eqb _ _ (λ x. c .if1 .taken (ap (λ (y : ℕ). y / 2) (c .before .before .parameter-at .ensures .flags-is) ∙ x))))
+    sym (plain-reads _ _ _ l (sym (identifier-flag _ _ (c .before .before .parameter-at .ensures .flags-is) (c .before .has-identifier .ensures)) ∙ not-true _ (c .if1 .taken)))
 
 holds-in-requires : tie.Need-holds-in-requires
 holds-in-requires c κs =
@@ -43,7 +47,7 @@ returns-2 c =
     let f = frameAt (view t) (now (s .args .stream)) (s .args .p) in
     c .holds-in .ensures
     ∙ ap₂ (holds (subframesOf t) f) (ap (sampleAt t) (e .first-is) ∙ sym (first t i (s .pre .0 .ruled) l .is)) (e .value-is)
-    ∙ sym (identifier-reads t f i l (eq-eqb _ _ (sym (ap (λ (x : ℕ). x / 2) (e .flags-is)) ∙ c .before .if1 .left)))
+    ∙ sym (identifier-reads t f i l (sym (identifier-flag t i (e .flags-is) (c .before .before .has-identifier .ensures)) ∙ not-false _ (c .before .if1 .left)))
 
 pub reads-at-spec : {M : Type 1} → statement M
-reads-at-spec = tie.close (tie.spec parameter-at-requires returns holds-in-requires returns-2)
+reads-at-spec = tie.close (tie.spec parameter-at-requires has-identifier-requires returns holds-in-requires returns-2)

@@ -1,12 +1,13 @@
 -- The rows so far are bits that every frame with this identifier has.
 use mathlib.Core.Path.{_≡_, sym, ap, _∙_}
 use denote.Ref.{now}
-use Prim.Native.Nat.{ℕ, _+_, _-_, _/_}
+use Prim.Native.Nat.{_+_, _-_}
 use native.Mathlib.Omega.{arith}
-use borrow.Author.Tests.{eq-eqb}
+use borrow.Author.Tests.{not-false}
 use Rattle.model.specs.Samples.{holds}
 use Rattle.model.specs.Stored.{firstSampleIn, firstComponentIn, componentCountIn}
 use Rattle.model.specs.View.{sampleAt, view}
+use Rattle.stored.proofs.Flagged.{identifier-flag}
 use Rattle.rules.specs.Ruled.{subframesOf}
 use Rattle.framing.proofs.Listed.{listed-at, first-one, here-at, law-at}
 use Rattle.carding.specs.Layout.{frameAt}
@@ -25,6 +26,9 @@ abbrev μ-loop : tie.MeasureT-loop
 
 parameter-at-requires : tie.Need-parameter-at-requires Inv-loop μ-loop
 parameter-at-requires c κs = search needs
+
+has-identifier-requires : tie.Need-has-identifier-requires Inv-loop μ-loop
+has-identifier-requires c κs = search needs
 
 returns : tie.Need-returns Inv-loop μ-loop
 returns c = c .before .before .before .before .pre .1 .1 .1
@@ -51,7 +55,7 @@ loop-holds c =
     let e = c .before .before .before .parameter-at .ensures in
     let q : firstSampleIn b i ≡ firstSampleIn b i + 0 = omega arith in
     let is = c .sample-at .ensures in
-    let flag = eq-eqb _ _ (sym (ap (λ (x : ℕ). x / 2) (e .flags-is)) ∙ c .before .if1 .left) in
+    let flag = sym (identifier-flag b i (e .flags-is) (c .before .before .has-identifier .ensures)) ∙ not-false _ (c .before .if1 .left) in
     record {
       along = along-none (is .first-is ∙ ap (firstComponentIn b) (e .first-is)) (is .count-is ∙ ap (componentCountIn b) (e .first-is)) r (law-at b i 0 m q);
       sieve = s .pre .1 .1 .1;
@@ -104,6 +108,7 @@ sift-more-spec =
     Inv-loop
     μ-loop
     parameter-at-requires
+    has-identifier-requires
     returns
     sample-at-requires
     loop-holds

@@ -1,31 +1,28 @@
-use mathlib.Core.Path.{_≡_, refl, _∙_}
-use Prim.Native.Nat.{_^_}
-use lib.Dec.{ltb}
-use Rattle.judge.proofs.KeptLaws.{half-fits, none-fits}
+-- A value below two to the 64 is below every higher power.
+use mathlib.Core.Path.{sym, ap}
+use Prim.Native.Nat.{_^_, _≤_}
+use native.Mathlib.Omega.{arith}
 use borrow.Author.Needs.{needs}
+use borrow.Author.Tests.{lt-ltb}
+use lib.Dec.{ltb}
+use lib.Pow.{pow-mono}
 use Rattle.judge.proofs.kept.fits.Statement.{statement}
 use Rattle.judge.proofs.kept.fits.Tie as tie
 
-abbrev Inv-loop : tie.InvT-loop
-Inv-loop value width left₀ more₀ left more = ltb left (2 ^ more) ≡ ltb value (2 ^ width)
+returns : tie.Need-returns
+returns c =
+    let a = c .before .args in
+    let l : 2 ^ 64 ≤ 2 ^ a .width = pow-mono (c .if1 .taken) in
+    sym (lt-ltb (a .value) (2 ^ a .width) (omega (arith, l)))
 
-abbrev μ-loop : tie.MeasureT-loop
-μ-loop value width left₀ more₀ left more = more
+cast-power-of-two : tie.Need-cast-power-of-two
+cast-power-of-two c = search needs
 
-loop-holds : tie.Need-loop-holds Inv-loop μ-loop
-loop-holds c = refl
+power-of-two-requires : tie.Need-power-of-two-requires
+power-of-two-requires c κs = search needs
 
-sub-more : tie.Need-sub-more Inv-loop μ-loop
-sub-more c = search needs
-
-loop-less : tie.Need-loop-less Inv-loop μ-loop
-loop-less c = search needs
-
-loop-again : tie.Need-loop-again Inv-loop μ-loop
-loop-again c = half-fits _ _ (c .loop-test .taken) ∙ c .before .loop .inv
-
-returns : tie.Need-returns Inv-loop μ-loop
-returns c = none-fits _ _ (c .loop-test .left) ∙ c .before .loop .inv
+returns-2 : tie.Need-returns-2
+returns-2 c = ap (ltb (c .before .before .args .value)) (c .power-of-two .ensures)
 
 pub fits-spec : {M : Type 1} → statement M
-fits-spec = tie.close (tie.spec Inv-loop μ-loop loop-holds sub-more loop-less loop-again returns)
+fits-spec = tie.close (tie.spec returns cast-power-of-two power-of-two-requires returns-2)

@@ -23,8 +23,8 @@ header-shape-requires : tie.Need-header-shape-requires
 unfolding newest rows
 header-shape-requires c κs = known-newest
 
-bit-of-requires : tie.Need-bit-of-requires
-bit-of-requires c κs = search needs
+flag-of-requires : tie.Need-flag-of-requires
+flag-of-requires c κs = search needs
 
 put-item-requires : tie.Need-put-item-requires
 unfolding newest rows
@@ -118,7 +118,7 @@ returns c =
     let d0 = none-done headItems (newLayout .header) v (b .args .out .now) 0 t h in
     let d1 = one-done headItems (newLayout .header) v (b .args .out .now) 0 t h _ item.total _ _ _ _ d0 (ap (λ (s : HeaderShape). s .total) q) refl (c .before .before .before .before .before .before .before .before .before .before .before .before .before .before .before .before .before .before .before .before .before .before .before .before .before .before .before .before .before .before .before .before .before .before .before .before .before .before .before .before .before .before .before .before .before .before .before .before .before .before .put-item .ensures) in
     let d2 = one-done headItems (newLayout .header) v (b .args .out .now) 0 t h _ item.form _ _ _ _ d1 form-place refl (c .before .before .before .before .before .before .before .before .before .before .before .before .before .before .before .before .before .before .before .before .before .before .before .before .before .before .before .before .before .before .before .before .before .before .before .before .before .before .before .before .before .before .before .before .before .before .put-item2 .ensures) in
-    let d3 = one-done headItems (newLayout .header) v (b .args .out .now) 0 t h _ item.flags _ _ _ _ d2 (ap (λ (s : HeaderShape). s .flags) q) (c .before .before .before .before .before .before .before .before .before .before .before .before .before .before .before .before .before .before .before .before .before .before .before .before .before .before .before .before .before .before .before .before .before .before .before .before .before .before .before .before .before .before .before .before .before .before .before .before .before .before .before .before .bit-of .ensures .0) (c .before .before .before .before .before .before .before .before .before .before .before .before .before .before .before .before .before .before .before .before .before .before .before .before .before .before .before .before .before .before .before .before .before .before .before .before .before .before .before .before .before .before .put-item3 .ensures) in
+    let d3 = one-done headItems (newLayout .header) v (b .args .out .now) 0 t h _ item.flags _ _ _ _ d2 (ap (λ (s : HeaderShape). s .flags) q) (c .before .before .before .before .before .before .before .before .before .before .before .before .before .before .before .before .before .before .before .before .before .before .before .before .before .before .before .before .before .before .before .before .before .before .before .before .before .before .before .before .before .before .before .before .before .before .before .before .before .before .before .before .flag-of .ensures .0) (c .before .before .before .before .before .before .before .before .before .before .before .before .before .before .before .before .before .before .before .before .before .before .before .before .before .before .before .before .before .before .before .before .before .before .before .before .before .before .before .before .before .before .put-item3 .ensures) in
     let d4 = one-done headItems (newLayout .header) v (b .args .out .now) 0 t h _ item.zeros _ _ _ _ d3 (ap (λ (s : HeaderShape). s .zeros) q) refl (c .before .before .before .before .before .before .before .before .before .before .before .before .before .before .before .before .before .before .before .before .before .before .before .before .before .before .before .before .before .before .before .before .before .before .before .before .before .before .put-item4 .ensures) in
     let d5 = one-done headItems (newLayout .header) v (b .args .out .now) 0 t h _ item.text _ _ _ _ d4 (ap (λ (s : HeaderShape). s .text) q) refl (c .before .before .before .before .before .before .before .before .before .before .before .before .before .before .before .before .before .before .before .before .before .before .before .before .before .before .before .before .before .before .before .before .before .before .put-item5 .ensures) in
     let d6 = one-done headItems (newLayout .header) v (b .args .out .now) 0 t h _ (count subframePart) _ _ _ _ d5 (ap (λ (s : HeaderShape). s .subframes) q) refl (c .before .before .before .before .before .before .before .before .before .before .before .before .before .before .before .before .before .before .before .before .before .before .before .before .before .before .before .before .before .before .put-item6 .ensures) in
@@ -136,7 +136,7 @@ put-header-spec =
     tie.close
     (tie.spec
     header-shape-requires
-    bit-of-requires
+    flag-of-requires
     put-item-requires
     put-item-requires-2
     put-item-requires-3

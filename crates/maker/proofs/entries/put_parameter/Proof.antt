@@ -1,6 +1,6 @@
 -- Each item at its place.
-use Prim.Native.Nat.{ℕ, _+_, _*_}
-use mathlib.Core.Path.{refl, ap, ap₂, _∙_}
+use Prim.Native.Nat.{ℕ}
+use mathlib.Core.Path.{refl, ap, _∙_}
 use native.Mathlib.Omega.{arith}
 use lib.ListN.{length, getD}
 use Rattle.lay.specs.Bytes.{put}
@@ -36,64 +36,55 @@ add-o c =
     let h = entry-at parameterPart _ _ _ _ (ap (λ (s : ParameterShape). s .size) (c .before .parameter-shape .ensures)) (c .before .before .before .pre) in
     omega (arith, h .ends)
 
-bit-of-requires : tie.Need-bit-of-requires
-bit-of-requires c κs = search needs
-
-bit-of-requires-2 : tie.Need-bit-of-requires-2
-bit-of-requires-2 c κs = search needs
-
-mul-flags : tie.Need-mul-flags
-mul-flags c = search needs
-
-add-flags : tie.Need-add-flags
-add-flags c = search needs
+flags-of-requires : tie.Need-flags-of-requires
+flags-of-requires c κs = search needs
 
 put-item-requires : tie.Need-put-item-requires
 unfolding newest rows
 put-item-requires c κs =
-    let r = place-room plain (slotsOf newLayout parameterPart) _ (length (c .before .before .before .before .before .before .args .out .now)) item.nameLength _ (entry-at parameterPart _ _ _ _ (ap (λ (s : ParameterShape). s .size) (c .before .before .before .before .parameter-shape .ensures)) (c .before .before .before .before .before .before .pre) .ends) (ap (λ (s : ParameterShape). s .name) (c .before .before .before .before .parameter-shape .ensures)) (wide-plain (slotsOf newLayout parameterPart) (new-sound .plainParameter) item.nameLength) in
+    let r = place-room plain (slotsOf newLayout parameterPart) _ (length (c .before .before .before .before .before .args .out .now)) item.nameLength _ (entry-at parameterPart _ _ _ _ (ap (λ (s : ParameterShape). s .size) (c .before .before .before .parameter-shape .ensures)) (c .before .before .before .before .before .pre) .ends) (ap (λ (s : ParameterShape). s .name) (c .before .before .before .parameter-shape .ensures)) (wide-plain (slotsOf newLayout parameterPart) (new-sound .plainParameter) item.nameLength) in
     (omega (arith, r .0), r .1)
 
 put-item-requires-2 : tie.Need-put-item-requires-2
 unfolding newest rows
 put-item-requires-2 c κs =
-    let r = place-room plain (slotsOf newLayout parameterPart) _ (length (c .before .before .before .before .before .before .before .before .before .before .args .out .now)) item.mnemonicLength _ (entry-at parameterPart _ _ _ _ (ap (λ (s : ParameterShape). s .size) (c .before .before .before .before .before .before .before .before .parameter-shape .ensures)) (c .before .before .before .before .before .before .before .before .before .before .pre) .ends) (ap (λ (s : ParameterShape). s .mnemonic) (c .before .before .before .before .before .before .before .before .parameter-shape .ensures)) (wide-plain (slotsOf newLayout parameterPart) (new-sound .plainParameter) item.mnemonicLength) in
+    let r = place-room plain (slotsOf newLayout parameterPart) _ (length (c .before .before .before .before .before .before .before .before .before .args .out .now)) item.mnemonicLength _ (entry-at parameterPart _ _ _ _ (ap (λ (s : ParameterShape). s .size) (c .before .before .before .before .before .before .before .parameter-shape .ensures)) (c .before .before .before .before .before .before .before .before .before .pre) .ends) (ap (λ (s : ParameterShape). s .mnemonic) (c .before .before .before .before .before .before .before .parameter-shape .ensures)) (wide-plain (slotsOf newLayout parameterPart) (new-sound .plainParameter) item.mnemonicLength) in
     (omega (arith, r .0, c .before .before .out .given), r .1)
 
 put-item-requires-3 : tie.Need-put-item-requires-3
 unfolding newest rows
 put-item-requires-3 c κs =
-    let r = place-room plain (slotsOf newLayout parameterPart) _ (length (c .before .before .before .before .before .before .before .before .before .before .before .before .before .before .args .out .now)) item.identificationLength _ (entry-at parameterPart _ _ _ _ (ap (λ (s : ParameterShape). s .size) (c .before .before .before .before .before .before .before .before .before .before .before .before .parameter-shape .ensures)) (c .before .before .before .before .before .before .before .before .before .before .before .before .before .before .pre) .ends) (ap (λ (s : ParameterShape). s .identification) (c .before .before .before .before .before .before .before .before .before .before .before .before .parameter-shape .ensures)) (wide-plain (slotsOf newLayout parameterPart) (new-sound .plainParameter) item.identificationLength) in
+    let r = place-room plain (slotsOf newLayout parameterPart) _ (length (c .before .before .before .before .before .before .before .before .before .before .before .before .before .args .out .now)) item.identificationLength _ (entry-at parameterPart _ _ _ _ (ap (λ (s : ParameterShape). s .size) (c .before .before .before .before .before .before .before .before .before .before .before .parameter-shape .ensures)) (c .before .before .before .before .before .before .before .before .before .before .before .before .before .pre) .ends) (ap (λ (s : ParameterShape). s .identification) (c .before .before .before .before .before .before .before .before .before .before .before .parameter-shape .ensures)) (wide-plain (slotsOf newLayout parameterPart) (new-sound .plainParameter) item.identificationLength) in
     (omega (arith, r .0, c .before .before .before .before .before .before .out .given, c .before .before .out2 .given), r .1)
 
 put-item-requires-4 : tie.Need-put-item-requires-4
 unfolding newest rows
 put-item-requires-4 c κs =
-    let r = place-room plain (slotsOf newLayout parameterPart) _ (length (c .before .before .before .before .before .before .before .before .before .before .before .before .before .before .before .before .before .before .args .out .now)) item.parameterFlags _ (entry-at parameterPart _ _ _ _ (ap (λ (s : ParameterShape). s .size) (c .before .before .before .before .before .before .before .before .before .before .before .before .before .before .before .before .parameter-shape .ensures)) (c .before .before .before .before .before .before .before .before .before .before .before .before .before .before .before .before .before .before .pre) .ends) (ap (λ (s : ParameterShape). s .flags) (c .before .before .before .before .before .before .before .before .before .before .before .before .before .before .before .before .parameter-shape .ensures)) (wide-plain (slotsOf newLayout parameterPart) (new-sound .plainParameter) item.parameterFlags) in
+    let r = place-room plain (slotsOf newLayout parameterPart) _ (length (c .before .before .before .before .before .before .before .before .before .before .before .before .before .before .before .before .before .args .out .now)) item.parameterFlags _ (entry-at parameterPart _ _ _ _ (ap (λ (s : ParameterShape). s .size) (c .before .before .before .before .before .before .before .before .before .before .before .before .before .before .before .parameter-shape .ensures)) (c .before .before .before .before .before .before .before .before .before .before .before .before .before .before .before .before .before .pre) .ends) (ap (λ (s : ParameterShape). s .flags) (c .before .before .before .before .before .before .before .before .before .before .before .before .before .before .before .parameter-shape .ensures)) (wide-plain (slotsOf newLayout parameterPart) (new-sound .plainParameter) item.parameterFlags) in
     (omega (arith, r .0, c .before .before .before .before .before .before .before .before .before .before .out .given, c .before .before .before .before .before .before .out2 .given, c .before .before .out3 .given), r .1)
 
 put-item-requires-5 : tie.Need-put-item-requires-5
 unfolding newest rows
 put-item-requires-5 c κs =
-    let r = place-room plain (slotsOf newLayout parameterPart) _ (length (c .before .before .before .before .before .before .before .before .before .before .before .before .before .before .before .before .before .before .before .before .before .before .args .out .now)) item.textStart _ (entry-at parameterPart _ _ _ _ (ap (λ (s : ParameterShape). s .size) (c .before .before .before .before .before .before .before .before .before .before .before .before .before .before .before .before .before .before .before .before .parameter-shape .ensures)) (c .before .before .before .before .before .before .before .before .before .before .before .before .before .before .before .before .before .before .before .before .before .before .pre) .ends) (ap (λ (s : ParameterShape). s .start) (c .before .before .before .before .before .before .before .before .before .before .before .before .before .before .before .before .before .before .before .before .parameter-shape .ensures)) (wide-plain (slotsOf newLayout parameterPart) (new-sound .plainParameter) item.textStart) in
+    let r = place-room plain (slotsOf newLayout parameterPart) _ (length (c .before .before .before .before .before .before .before .before .before .before .before .before .before .before .before .before .before .before .before .before .before .args .out .now)) item.textStart _ (entry-at parameterPart _ _ _ _ (ap (λ (s : ParameterShape). s .size) (c .before .before .before .before .before .before .before .before .before .before .before .before .before .before .before .before .before .before .before .parameter-shape .ensures)) (c .before .before .before .before .before .before .before .before .before .before .before .before .before .before .before .before .before .before .before .before .before .pre) .ends) (ap (λ (s : ParameterShape). s .start) (c .before .before .before .before .before .before .before .before .before .before .before .before .before .before .before .before .before .before .before .parameter-shape .ensures)) (wide-plain (slotsOf newLayout parameterPart) (new-sound .plainParameter) item.textStart) in
     (omega (arith, r .0, c .before .before .before .before .before .before .before .before .before .before .before .before .before .before .out .given, c .before .before .before .before .before .before .before .before .before .before .out2 .given, c .before .before .before .before .before .before .out3 .given, c .before .before .out4 .given), r .1)
 
 put-item-requires-6 : tie.Need-put-item-requires-6
 unfolding newest rows
 put-item-requires-6 c κs =
-    let r = place-room plain (slotsOf newLayout parameterPart) _ (length (c .before .before .before .before .before .before .before .before .before .before .before .before .before .before .before .before .before .before .before .before .before .before .before .before .before .before .args .out .now)) item.firstSample _ (entry-at parameterPart _ _ _ _ (ap (λ (s : ParameterShape). s .size) (c .before .before .before .before .before .before .before .before .before .before .before .before .before .before .before .before .before .before .before .before .before .before .before .before .parameter-shape .ensures)) (c .before .before .before .before .before .before .before .before .before .before .before .before .before .before .before .before .before .before .before .before .before .before .before .before .before .before .pre) .ends) (ap (λ (s : ParameterShape). s .first) (c .before .before .before .before .before .before .before .before .before .before .before .before .before .before .before .before .before .before .before .before .before .before .before .before .parameter-shape .ensures)) (wide-plain (slotsOf newLayout parameterPart) (new-sound .plainParameter) item.firstSample) in
+    let r = place-room plain (slotsOf newLayout parameterPart) _ (length (c .before .before .before .before .before .before .before .before .before .before .before .before .before .before .before .before .before .before .before .before .before .before .before .before .before .args .out .now)) item.firstSample _ (entry-at parameterPart _ _ _ _ (ap (λ (s : ParameterShape). s .size) (c .before .before .before .before .before .before .before .before .before .before .before .before .before .before .before .before .before .before .before .before .before .before .before .parameter-shape .ensures)) (c .before .before .before .before .before .before .before .before .before .before .before .before .before .before .before .before .before .before .before .before .before .before .before .before .before .pre) .ends) (ap (λ (s : ParameterShape). s .first) (c .before .before .before .before .before .before .before .before .before .before .before .before .before .before .before .before .before .before .before .before .before .before .before .parameter-shape .ensures)) (wide-plain (slotsOf newLayout parameterPart) (new-sound .plainParameter) item.firstSample) in
     (omega (arith, r .0, c .before .before .before .before .before .before .before .before .before .before .before .before .before .before .before .before .before .before .out .given, c .before .before .before .before .before .before .before .before .before .before .before .before .before .before .out2 .given, c .before .before .before .before .before .before .before .before .before .before .out3 .given, c .before .before .before .before .before .before .out4 .given, c .before .before .out5 .given), r .1)
 
 put-item-requires-7 : tie.Need-put-item-requires-7
 unfolding newest rows
 put-item-requires-7 c κs =
-    let r = place-room plain (slotsOf newLayout parameterPart) _ (length (c .before .before .before .before .before .before .before .before .before .before .before .before .before .before .before .before .before .before .before .before .before .before .before .before .before .before .before .before .before .before .args .out .now)) item.sampleCount _ (entry-at parameterPart _ _ _ _ (ap (λ (s : ParameterShape). s .size) (c .before .before .before .before .before .before .before .before .before .before .before .before .before .before .before .before .before .before .before .before .before .before .before .before .before .before .before .before .parameter-shape .ensures)) (c .before .before .before .before .before .before .before .before .before .before .before .before .before .before .before .before .before .before .before .before .before .before .before .before .before .before .before .before .before .before .pre) .ends) (ap (λ (s : ParameterShape). s .count) (c .before .before .before .before .before .before .before .before .before .before .before .before .before .before .before .before .before .before .before .before .before .before .before .before .before .before .before .before .parameter-shape .ensures)) (wide-plain (slotsOf newLayout parameterPart) (new-sound .plainParameter) item.sampleCount) in
+    let r = place-room plain (slotsOf newLayout parameterPart) _ (length (c .before .before .before .before .before .before .before .before .before .before .before .before .before .before .before .before .before .before .before .before .before .before .before .before .before .before .before .before .before .args .out .now)) item.sampleCount _ (entry-at parameterPart _ _ _ _ (ap (λ (s : ParameterShape). s .size) (c .before .before .before .before .before .before .before .before .before .before .before .before .before .before .before .before .before .before .before .before .before .before .before .before .before .before .before .parameter-shape .ensures)) (c .before .before .before .before .before .before .before .before .before .before .before .before .before .before .before .before .before .before .before .before .before .before .before .before .before .before .before .before .before .pre) .ends) (ap (λ (s : ParameterShape). s .count) (c .before .before .before .before .before .before .before .before .before .before .before .before .before .before .before .before .before .before .before .before .before .before .before .before .before .before .before .parameter-shape .ensures)) (wide-plain (slotsOf newLayout parameterPart) (new-sound .plainParameter) item.sampleCount) in
     (omega (arith, r .0, c .before .before .before .before .before .before .before .before .before .before .before .before .before .before .before .before .before .before .before .before .before .before .out .given, c .before .before .before .before .before .before .before .before .before .before .before .before .before .before .before .before .before .before .out2 .given, c .before .before .before .before .before .before .before .before .before .before .before .before .before .before .out3 .given, c .before .before .before .before .before .before .before .before .before .before .out4 .given, c .before .before .before .before .before .before .out5 .given, c .before .before .out6 .given), r .1)
 
 put-item-requires-8 : tie.Need-put-item-requires-8
 unfolding newest rows
 put-item-requires-8 c κs =
-    let r = place-room plain (slotsOf newLayout parameterPart) _ (length (c .before .before .before .before .before .before .before .before .before .before .before .before .before .before .before .before .before .before .before .before .before .before .before .before .before .before .before .before .before .before .before .before .before .before .args .out .now)) item.value _ (entry-at parameterPart _ _ _ _ (ap (λ (s : ParameterShape). s .size) (c .before .before .before .before .before .before .before .before .before .before .before .before .before .before .before .before .before .before .before .before .before .before .before .before .before .before .before .before .before .before .before .before .parameter-shape .ensures)) (c .before .before .before .before .before .before .before .before .before .before .before .before .before .before .before .before .before .before .before .before .before .before .before .before .before .before .before .before .before .before .before .before .before .before .pre) .ends) (ap (λ (s : ParameterShape). s .value) (c .before .before .before .before .before .before .before .before .before .before .before .before .before .before .before .before .before .before .before .before .before .before .before .before .before .before .before .before .before .before .before .before .parameter-shape .ensures)) (wide-plain (slotsOf newLayout parameterPart) (new-sound .plainParameter) item.value) in
+    let r = place-room plain (slotsOf newLayout parameterPart) _ (length (c .before .before .before .before .before .before .before .before .before .before .before .before .before .before .before .before .before .before .before .before .before .before .before .before .before .before .before .before .before .before .before .before .before .args .out .now)) item.value _ (entry-at parameterPart _ _ _ _ (ap (λ (s : ParameterShape). s .size) (c .before .before .before .before .before .before .before .before .before .before .before .before .before .before .before .before .before .before .before .before .before .before .before .before .before .before .before .before .before .before .before .parameter-shape .ensures)) (c .before .before .before .before .before .before .before .before .before .before .before .before .before .before .before .before .before .before .before .before .before .before .before .before .before .before .before .before .before .before .before .before .before .pre) .ends) (ap (λ (s : ParameterShape). s .value) (c .before .before .before .before .before .before .before .before .before .before .before .before .before .before .before .before .before .before .before .before .before .before .before .before .before .before .before .before .before .before .before .parameter-shape .ensures)) (wide-plain (slotsOf newLayout parameterPart) (new-sound .plainParameter) item.value) in
     (omega (arith, r .0, c .before .before .before .before .before .before .before .before .before .before .before .before .before .before .before .before .before .before .before .before .before .before .before .before .before .before .out .given, c .before .before .before .before .before .before .before .before .before .before .before .before .before .before .before .before .before .before .before .before .before .before .out2 .given, c .before .before .before .before .before .before .before .before .before .before .before .before .before .before .before .before .before .before .out3 .given, c .before .before .before .before .before .before .before .before .before .before .before .before .before .before .out4 .given, c .before .before .before .before .before .before .before .before .before .before .out5 .given, c .before .before .before .before .before .before .out6 .given, c .before .before .out7 .given), r .1)
 
 same-length : tie.Need-same-length
@@ -102,8 +93,8 @@ same-length c = omega (arith, c .before .out8 .given, c .before .before .before 
 returns : tie.Need-returns
 unfolding newest rows parameterBy
 returns c =
-    let b = c .before .before .before .before .before .before .before .before .before .before .before .before .before .before .before .before .before .before .before .before .before .before .before .before .before .before .before .before .before .before .before .before .before .before .before .before .before in
-    let q = c .before .before .before .before .before .before .before .before .before .before .before .before .before .before .before .before .before .before .before .before .before .before .before .before .before .before .before .before .before .before .before .before .before .before .before .parameter-shape .ensures in
+    let b = c .before .before .before .before .before .before .before .before .before .before .before .before .before .before .before .before .before .before .before .before .before .before .before .before .before .before .before .before .before .before .before .before .before .before .before .before in
+    let q = c .before .before .before .before .before .before .before .before .before .before .before .before .before .before .before .before .before .before .before .before .before .before .before .before .before .before .before .before .before .before .before .before .before .before .parameter-shape .ensures in
     let e = entry-at parameterPart _ _ _ _ (ap (λ (s : ParameterShape). s .size) q) (b .pre) in
     let v : ℕ → ℕ = λ k. getD (parameterBy (b .args .d)) k 0 in
     let t = new-sound .tidyPart parameterPart (omega arith) in
@@ -112,7 +103,7 @@ returns c =
     let d1 = one-done (entryItems parameterPart) (slotsOf newLayout parameterPart) v (b .args .out .now) _ t h _ item.nameLength _ _ _ _ d0 (ap (λ (s : ParameterShape). s .name) q) refl (c .before .before .before .before .before .before .before .before .before .before .before .before .before .before .before .before .before .before .before .before .before .before .before .before .before .before .before .before .before .before .put-item .ensures) in
     let d2 = one-done (entryItems parameterPart) (slotsOf newLayout parameterPart) v (b .args .out .now) _ t h _ item.mnemonicLength _ _ _ _ d1 (ap (λ (s : ParameterShape). s .mnemonic) q) refl (c .before .before .before .before .before .before .before .before .before .before .before .before .before .before .before .before .before .before .before .before .before .before .before .before .before .before .put-item2 .ensures) in
     let d3 = one-done (entryItems parameterPart) (slotsOf newLayout parameterPart) v (b .args .out .now) _ t h _ item.identificationLength _ _ _ _ d2 (ap (λ (s : ParameterShape). s .identification) q) refl (c .before .before .before .before .before .before .before .before .before .before .before .before .before .before .before .before .before .before .before .before .before .before .put-item3 .ensures) in
-    let d4 = one-done (entryItems parameterPart) (slotsOf newLayout parameterPart) v (b .args .out .now) _ t h _ item.parameterFlags _ _ _ _ d3 (ap (λ (s : ParameterShape). s .flags) q) (ap₂ (λ (x y : ℕ). x + 2 * y) (c .before .before .before .before .before .before .before .before .before .before .before .before .before .before .before .before .before .before .before .before .before .before .before .before .before .before .before .before .before .before .before .before .before .bit-of .ensures .0) (c .before .before .before .before .before .before .before .before .before .before .before .before .before .before .before .before .before .before .before .before .before .before .before .before .before .before .before .before .before .before .before .before .bit-of2 .ensures .0)) (c .before .before .before .before .before .before .before .before .before .before .before .before .before .before .before .before .before .before .put-item4 .ensures) in
+    let d4 = one-done (entryItems parameterPart) (slotsOf newLayout parameterPart) v (b .args .out .now) _ t h _ item.parameterFlags _ _ _ _ d3 (ap (λ (s : ParameterShape). s .flags) q) (c .before .before .before .before .before .before .before .before .before .before .before .before .before .before .before .before .before .before .before .before .before .before .before .before .before .before .before .before .before .before .before .before .flags-of .ensures) (c .before .before .before .before .before .before .before .before .before .before .before .before .before .before .before .before .before .before .put-item4 .ensures) in
     let d5 = one-done (entryItems parameterPart) (slotsOf newLayout parameterPart) v (b .args .out .now) _ t h _ item.textStart _ _ _ _ d4 (ap (λ (s : ParameterShape). s .start) q) refl (c .before .before .before .before .before .before .before .before .before .before .before .before .before .before .put-item5 .ensures) in
     let d6 = one-done (entryItems parameterPart) (slotsOf newLayout parameterPart) v (b .args .out .now) _ t h _ item.firstSample _ _ _ _ d5 (ap (λ (s : ParameterShape). s .first) q) refl (c .before .before .before .before .before .before .before .before .before .before .put-item6 .ensures) in
     let d7 = one-done (entryItems parameterPart) (slotsOf newLayout parameterPart) v (b .args .out .now) _ t h _ item.sampleCount _ _ _ _ d6 (ap (λ (s : ParameterShape). s .count) q) refl (c .before .before .before .before .before .before .put-item7 .ensures) in
@@ -127,10 +118,7 @@ put-parameter-spec =
     parameter-shape-requires
     mul-o
     add-o
-    bit-of-requires
-    bit-of-requires-2
-    mul-flags
-    add-flags
+    flags-of-requires
     put-item-requires
     put-item-requires-2
     put-item-requires-3

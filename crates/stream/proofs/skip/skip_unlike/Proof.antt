@@ -19,8 +19,11 @@ Inv-loop stream k n want a₀ a = Passed stream k n want a
 abbrev μ-loop : tie.MeasureT-loop
 μ-loop stream k n want a₀ a = length stream - a
 
+byte-of-requires : tie.Need-byte-of-requires Inv-loop μ-loop
+byte-of-requires c κs = search needs
+
 loop-holds : tie.Need-loop-holds Inv-loop μ-loop
-loop-holds c = passed-none _ _ _ _
+loop-holds c = passed-none _ _ _ _ _ (c .byte-of .ensures)
 
 add-loop : tie.Need-add-loop Inv-loop μ-loop
 add-loop c = search needs
@@ -49,8 +52,8 @@ add-result c = search needs
 returns : tie.Need-returns Inv-loop μ-loop
 returns c =
     found-like _ _ _ _ _ (c .before .before .before .before .before .before .before .loop .inv)
-    (window-made 4 _ _ _ (small-made (now (c .before .before .before .before .before .before .before .before .before .args .stream)) (λ i. omega (arith, c .before .before .before .before .before .before .before .before .shared-slice-known .given i)) 4 _) (c .before .before .before .before .before .before .loop-test .taken) (c .before .before .before .before .before .four-at .ensures .0))
-    (c .before .before .before .before .before .before .loop-test .taken) (c .before .before .before .before .before .before .before .before .before .pre .2) (c .before .before .bit-in .ensures) (c .before .first-like .ensures) (c .if2 .taken)
+    (window-made 4 _ _ _ (small-made (now (c .before .before .before .before .before .before .before .before .before .before .args .stream)) (λ i. omega (arith, c .before .before .before .before .before .before .before .before .before .shared-slice-known .given i)) 4 _) (c .before .before .before .before .before .before .loop-test .taken) (c .before .before .before .before .before .four-at .ensures .0))
+    (c .before .before .before .before .before .before .loop-test .taken) (c .before .before .before .before .before .before .before .before .before .before .pre .2) (c .before .before .bit-in .ensures) (c .before .first-like .ensures) (c .if2 .taken)
 
 add-a : tie.Need-add-a Inv-loop μ-loop
 add-a c = search needs
@@ -62,9 +65,9 @@ loop-again : tie.Need-loop-again Inv-loop μ-loop
 loop-again c =
     let h = c .before .before .before .before .loop .inv in
     let w =
-    (window-made 4 _ _ _ (small-made (now (c .before .before .before .before .before .before .args .stream)) (λ i. omega (arith, c .before .before .before .before .before .shared-slice-known .given i)) 4 _) (c .before .before .before .loop-test .taken) (c .before .before .four-at .ensures .0)) in
+    (window-made 4 _ _ _ (small-made (now (c .before .before .before .before .before .before .before .args .stream)) (λ i. omega (arith, c .before .before .before .before .before .before .shared-slice-known .given i)) 4 _) (c .before .before .before .loop-test .taken) (c .before .before .four-at .ensures .0)) in
     let l = c .before .before .before .loop-test .taken in
-    let t = c .before .before .before .before .before .before .pre .2 in
+    let t = c .before .before .before .before .before .before .before .pre .2 in
     ⊎-elim
     (λ x. passed-last _ _ _ _ _ h w l t (x .1 .ensures) (x .2 .ensures) (x .3 .left))
     (λ x. passed-eight _ _ _ _ _ h w l t (subst (EightUnlike _ _ _) (not-false _ (x .left)) (c .before .eight-unlike .ensures)))
@@ -91,6 +94,7 @@ skip-unlike-spec =
     (tie.spec
     Inv-loop
     μ-loop
+    byte-of-requires
     loop-holds
     add-loop
     four-at-requires
