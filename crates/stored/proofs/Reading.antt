@@ -26,8 +26,11 @@ use Rattle.model.specs.Facts.{Formed}
 use Rattle.model.proofs.Rows.{each-part, known-sound}
 use Rattle.model.proofs.Laying.{formed-sound}
 use Rattle.stored.specs.Entry.{CountsOf, countsBy, Few, StartsBy, StartsOf, OpenedOf}
-use Rattle.stored.specs.Shapes.{componentShape, boundsOf, limitsBy}
+use Rattle.stored.specs.Shapes.{subframeShape, parameterShape, sampleShape, componentShape, boundsOf, limitsBy}
 use Rattle.stored.specs.declared.forms.Bounds.{Bounds}
+use Rattle.stored.specs.declared.forms.SubframeShape.{SubframeShape}
+use Rattle.stored.specs.declared.forms.ParameterShape.{ParameterShape}
+use Rattle.stored.specs.declared.forms.SampleShape.{SampleShape}
 use Rattle.stored.specs.declared.forms.ComponentShape.{ComponentShape}
 use Rattle.stored.specs.declared.items.Counts.{Counts}
 use Rattle.stored.specs.declared.items.Starts.{Starts}
@@ -46,7 +49,7 @@ module _ {b : List ℕ} {f : ℕ} (h : Formed b) (e : f ≡ formIn b) where
   pub known-here : known f ≡ true
   known-here = rw e (h .known)
 
-  pub layout-here : layoutOf f ≡ layoutIn b
+  layout-here : layoutOf f ≡ layoutIn b
   unfolding layoutIn
   layout-here = ap layoutOf e
 
@@ -165,7 +168,7 @@ module _ {b : List ℕ} {o : Opened} (z : OpenedOf b o) (p i start size : ℕ) (
   sound-here : Sound (formIn b) (layoutIn b) (limitsIn b)
   sound-here = formed-sound b (z .sized .formed)
 
-  pub entry-small : start + size * i < 4294967296
+  entry-small : start + size * i < 4294967296
   unfolding textPart
   entry-small =
       let s = z .starts in
@@ -174,22 +177,43 @@ module _ {b : List ℕ} {o : Opened} (z : OpenedOf b o) (p i start size : ℕ) (
       let v : size * i ≡ span (slotsOf (layoutIn b) p) * i = ap (λ (s : ℕ). s * i) e in
       omega (arith, s .text-is, s .text-below)
 
-  pub entry-here : EntryHere b p i (start + size * i)
+  entry-here : EntryHere b p i (start + size * i)
   unfolding entryBy textPart
   entry-here =
       let v : size * i ≡ span (slotsOf (layoutIn b) p) * i = ap (λ (s : ℕ). s * i) e in
       let n = entry-ends (layoutIn b) (countIn b) p i (omega (arith, sound-here .many)) l in
       record { is = omega arith; ends = omega (arith, z .sized .fits) }
 
--- a component's, by its shape
-pub shape-here : {b : List ℕ} {o : Opened} {s : ComponentShape} → OpenedOf b o → s ≡ componentShape (layoutOf (o .form)) → s ≡ componentShape (layoutIn b)
-shape-here z e = e ∙ ap componentShape (layout-here (z .sized .formed) (z .form-is))
+-- the same by the shape of its part, which f gives of a layout
+pub shape-here : {S : Type 0} (f : Layout → S) {b : List ℕ} {o : Opened} {s : S} → OpenedOf b o → s ≡ f (layoutOf (o .form)) → s ≡ f (layoutIn b)
+shape-here f z e = e ∙ ap f (layout-here (z .sized .formed) (z .form-is))
 
-module _ {b : List ℕ} {o : Opened} (z : OpenedOf b o) (k : ℕ) (l : k < countIn b componentPart) {s : ComponentShape} (q : s ≡ componentShape (layoutIn b)) where
-  pub component-small : o .starts .components + s .size * k < 4294967296
+module _ {b : List ℕ} {o : Opened} (z : OpenedOf b o) (i : ℕ) (l : i < countIn b subframePart) {s : SubframeShape} (q : s ≡ subframeShape (layoutIn b)) where
+  pub subframe-small : o .starts .subframes + s .size * i < 4294967296
+  subframe-small = entry-small z subframePart _ _ _ (omega arith) l (z .starts .subframes-is) (ap (λ (s : SubframeShape). s .size) q)
+
+  pub subframe-here : EntryHere b subframePart i (o .starts .subframes + s .size * i)
+  subframe-here = entry-here z subframePart _ _ _ (omega arith) l (z .starts .subframes-is) (ap (λ (s : SubframeShape). s .size) q)
+
+module _ {b : List ℕ} {o : Opened} (z : OpenedOf b o) (i : ℕ) (l : i < countIn b parameterPart) {s : ParameterShape} (q : s ≡ parameterShape (layoutIn b)) where
+  pub parameter-small : o .starts .parameters + s .size * i < 4294967296
+  parameter-small = entry-small z parameterPart _ _ _ (omega arith) l (z .starts .parameters-is) (ap (λ (s : ParameterShape). s .size) q)
+
+  pub parameter-here : EntryHere b parameterPart i (o .starts .parameters + s .size * i)
+  parameter-here = entry-here z parameterPart _ _ _ (omega arith) l (z .starts .parameters-is) (ap (λ (s : ParameterShape). s .size) q)
+
+module _ {b : List ℕ} {o : Opened} (z : OpenedOf b o) (i : ℕ) (l : i < countIn b samplePart) {s : SampleShape} (q : s ≡ sampleShape (layoutIn b)) where
+  pub sample-small : o .starts .samples + s .size * i < 4294967296
+  sample-small = entry-small z samplePart _ _ _ (omega arith) l (z .starts .samples-is) (ap (λ (s : SampleShape). s .size) q)
+
+  pub sample-here : EntryHere b samplePart i (o .starts .samples + s .size * i)
+  sample-here = entry-here z samplePart _ _ _ (omega arith) l (z .starts .samples-is) (ap (λ (s : SampleShape). s .size) q)
+
+module _ {b : List ℕ} {o : Opened} (z : OpenedOf b o) (i : ℕ) (l : i < countIn b componentPart) {s : ComponentShape} (q : s ≡ componentShape (layoutIn b)) where
+  pub component-small : o .starts .components + s .size * i < 4294967296
   component-small = entry-small z componentPart _ _ _ (omega arith) l (z .starts .components-is) (ap (λ (s : ComponentShape). s .size) q)
 
-  pub component-here : EntryHere b componentPart k (o .starts .components + s .size * k)
+  pub component-here : EntryHere b componentPart i (o .starts .components + s .size * i)
   component-here = entry-here z componentPart _ _ _ (omega arith) l (z .starts .components-is) (ap (λ (s : ComponentShape). s .size) q)
 
 module _ {b : List ℕ} {p i at : ℕ} (h : EntryHere b p i at) (k : ℕ) (x : Place) (e : x ≡ placeOf (slotsOf (layoutIn b) p) k) where

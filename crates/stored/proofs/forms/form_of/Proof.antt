@@ -1,5 +1,4 @@
 -- The form stands where every form has it.
-use native.Mathlib.Omega.{arith}
 use Rattle.model.specs.Forms.{formIn}
 use borrow.Author.Needs.{needs}
 use Rattle.stored.proofs.forms.form_of.Statement.{statement}

@@ -1,6 +1,5 @@
 -- The form, the header and the offsets, one after the other; what they say is handed on.
 use mathlib.Core.Path.{sym, _∙_}
-use native.Mathlib.Omega.{arith}
 use borrow.Author.Tests.{not-true, not-false}
 use Rattle.lay.proofs.Tests.{refuse, differ}
 use Rattle.model.proofs.Laying.{formed, header, header-few, offsets, sized, head-formed, head-header, head-offsets, head-joined}
