@@ -1,5 +1,5 @@
-/* Each call of the C interface on the sheet on the wall and its frame, each answer against 01's. */
-#include "orbelundri.h"
+/* Each call of the C interface on the sheet on the wall and its frame, each answer against 01's; pages are in demo_page.c. */
+#include "demo.h"
 
 /* by hand, so that no header of the C library is needed */
 int printf(const char *format, ...);
@@ -75,7 +75,7 @@ static const uint8_t longer[65537];
 static unsigned answers;
 static unsigned wrong;
 
-static void answer(int right, const char *what) {
+void answer(int right, const char *what) {
     answers++;
     if (!right) {
         wrong++;
@@ -86,18 +86,6 @@ static void answer(int right, const char *what) {
 static const uint8_t *bytes(const char *text) { return (const uint8_t *)text; }
 
 static int is_made(orb_made made, uint32_t number, uint32_t at) { return made.number == number && made.at == at; }
-
-static int is_of_kind(orb_sample s, uint32_t kind, uint32_t width, uint32_t raw, int64_t value) {
-    return s.number == 0 && s.kind == kind && s.width == width && s.raw == raw && s.value == value;
-}
-
-static int is_sample(orb_sample s, uint32_t width, uint32_t raw, int64_t value) {
-    return is_of_kind(s, 1, width, raw, value);
-}
-
-static int is_refused(orb_sample s, uint32_t number) {
-    return s.number == number && s.kind == 0 && s.width == 0 && s.raw == 0 && s.value == 0;
-}
 
 static int is_compared(orb_compared c, uint32_t number, uint32_t subframe) {
     return c.number == number && c.subframe == subframe;
@@ -343,6 +331,7 @@ static void overlapping(void) {
     answer(is_compared(orb_compare(table, 148, off, 4), 24, 1), "its raw value with a copy that differs: 24");
     answer(is_carded(orb_card(table, 148, card, 12, words, 4), 0, 48, 4), "on a card the copy that differs is passed over");
     answer(is_frame(words, 71, 2048, 9, 1), "and the frame without one is handed out");
+    paging_overlap(table);
     table[126] = 8;
     answer(orb_check(table, 148) == 18, "an overlap above the next one's bits is 18");
 }
@@ -356,6 +345,7 @@ int main(void) {
     checking(table);
     reading(table);
     placing(table);
+    paging(table);
     comparing(table);
     naming(table);
     in_old_forms(table);

@@ -2,15 +2,17 @@
  * target/staticlib/libffi.a. It is for x86-64 Linux alone, and of the C library it needs memcpy and memset.
  *
  * Every call answers for every input, keeps nothing between calls, and asks for no memory. What it answers and what it
- * leaves in the lent bytes and words is proved. `number` is 0, or the refusal's number (docs/REFUSALS.md); a refusal writes nothing.
+ * leaves in the lent bytes, words and results is proved. `number` is 0, or the refusal's number (docs/REFUSALS.md); a call that
+ * refuses writes nothing.
  * Lines, parameters, samples and subframes are counted from 1.
  *
  * The caller's duties, which no proof covers:
- *   - a length is true: that many bytes, or words, may be read there, and written where the pointer is not const;
- *     with length 0 the pointer may be any, also null;
- *   - words are aligned for uint16_t;
+ *   - a length is true: that many bytes, words, requests or results may be read there, and written where the pointer is
+ *     not const; with length 0 the pointer may be any, also null;
+ *   - words are aligned for uint16_t, requests for orb_request, results for orb_sample;
  *   - what a call writes overlaps nothing else it is lent: the sheet and the table of orb_make, the table and the words
- *     of orb_place, the table, the stream and the words of orb_card and orb_card_from;
+ *     of orb_place, the table, the stream and the words of orb_card and orb_card_from, the results of orb_page and its
+ *     table, words and requests;
  *   - nobody changes what is lent while a call runs;
  *   - the stack has room: 64 kilobytes for orb_make, 8 for each other call (46, and 7 for a card, were measured).
  */
@@ -66,6 +68,18 @@ typedef struct {
     uint32_t count;
 } orb_carded;
 
+/* One of the samples a page asks for: a parameter's number and a sample's, any numbers. */
+typedef struct {
+    uint32_t parameter;
+    uint32_t sample;
+} orb_request;
+
+/* number 0: count results were written, one for each request, at the front of the lent ones. Else count is 0. */
+typedef struct {
+    uint32_t number;
+    uint32_t count;
+} orb_paged;
+
 /* The sheet's table at the front of the bytes lent for it; later bytes stay. It is of form 3: each component has its overlap, and
  * leading or trailing bits that the sheet leaves blank are unknown in it, not 0. Refuses with 1 to 17; 14 for an overlap that is not
  * smaller than its component's bits, larger than the next one's, or the last component's. */
@@ -78,6 +92,14 @@ uint32_t orb_check(const uint8_t *table, size_t table_len);
 /* One sample of a frame. Refuses with 18, 21, 22, 19 or 20, tested in this order. */
 orb_sample orb_read(const uint8_t *table, size_t table_len, const uint16_t *words, size_t words_len,
                     uint32_t parameter, uint32_t sample);
+
+/* Many samples of one frame at once, 256 at most. Each result is what orb_read answers for the request in the same place, its
+ * refusal too: 21 or 22 in one says nothing of the others, and where the bytes are no table 18 stands in every one. The same may be
+ * asked for twice. Results beyond the requests stay. Refuses with 29 (more than 256 requests) or 28 (fewer results than requests),
+ * tested in this order and before all else: only these two are the call's own number, and they write nothing. With no requests
+ * number and count are 0 and nothing is written, whatever the table and the frame are. */
+orb_paged orb_page(const uint8_t *table, size_t table_len, const uint16_t *words, size_t words_len,
+                   const orb_request *requests, size_t requests_len, orb_sample *results, size_t results_len);
 
 /* A raw value, as orb_sample's raw, placed into a frame: 0, or 18, 21, 22, 10, 19, 20 or 23, tested in this order. Other
  * bits stay. For a signed parameter -11 in six bits is placed as 53. 10: the sample has an overlap; the table's other samples

@@ -12,6 +12,10 @@ uint32_t plain_check(const uint8_t *table, size_t table_len);
 orb_sample plain_read(const uint8_t *table, size_t table_len, const uint16_t *words, size_t words_len,
                       uint32_t parameter, uint32_t sample);
 
+/* One check and one fit of the frame for the whole page. */
+orb_paged plain_page(const uint8_t *table, size_t table_len, const uint16_t *words, size_t words_len,
+                     const orb_request *requests, size_t requests_len, orb_sample *results, size_t results_len);
+
 /* After one check the frame so many times over: the values of all its samples, as far as there is room. Answers how many
  * it has, or 0 where table or frame is refused. */
 size_t plain_read_all(const uint8_t *table, size_t table_len, const uint16_t *words, size_t words_len, int64_t *values,

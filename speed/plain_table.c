@@ -313,25 +313,50 @@ static orb_sample join(const view *v, const size_t *before, const uint16_t *word
     return (orb_sample){0, kind, width, (uint32_t)raw, value};
 }
 
-orb_sample plain_read(const uint8_t *table, size_t table_len, const uint16_t *words, size_t words_len,
-                      uint32_t parameter, uint32_t sample) {
+static orb_sample refused(uint32_t number) { return (orb_sample){number, 0, 0, 0, 0}; }
+
+/* One sample of a checked table and a frame of this fit: 21, 22, then the frame's 19 or 20. */
+static orb_sample asked(const view *v, uint32_t fit, const size_t *before, const uint16_t *words, uint32_t parameter,
+                        uint32_t sample) {
+    if (parameter < 1 || parameter > v->parameter_count) {
+        return refused(21);
+    }
+    const uint8_t *e = v->parameters + 16 * (parameter - 1);
+    if (sample < 1 || sample > get2(e + 10)) {
+        return refused(22);
+    }
+    if (fit != 0) {
+        return refused(fit);
+    }
+    return join(v, before, words, v->samples + 8 * (get2(e + 8) + sample - 1), e[3] & 1);
+}
+
+orb_sample plain_read(const uint8_t *table, size_t table_len, const uint16_t *words, size_t words_len, uint32_t parameter,
+                      uint32_t sample) {
     view v;
     size_t before[32];
     if (!is_table(table, table_len, &v)) {
-        return (orb_sample){18, 0, 0, 0, 0};
+        return refused(18);
     }
-    if (parameter < 1 || parameter > v.parameter_count) {
-        return (orb_sample){21, 0, 0, 0, 0};
+    return asked(&v, fit_of(&v, words, words_len, before), before, words, parameter, sample);
+}
+
+orb_paged plain_page(const uint8_t *table, size_t table_len, const uint16_t *words, size_t words_len,
+                     const orb_request *requests, size_t requests_len, orb_sample *results, size_t results_len) {
+    view v;
+    size_t before[32];
+    if (requests_len > 256) {
+        return (orb_paged){29, 0};
     }
-    const uint8_t *e = v.parameters + 16 * (parameter - 1);
-    if (sample < 1 || sample > get2(e + 10)) {
-        return (orb_sample){22, 0, 0, 0, 0};
+    if (results_len < requests_len) {
+        return (orb_paged){28, 0};
     }
-    uint32_t number = fit_of(&v, words, words_len, before);
-    if (number != 0) {
-        return (orb_sample){number, 0, 0, 0, 0};
+    bool good = requests_len != 0 && is_table(table, table_len, &v);
+    uint32_t fit = good ? fit_of(&v, words, words_len, before) : 18;
+    for (size_t i = 0; i < requests_len; i++) {
+        results[i] = good ? asked(&v, fit, before, words, requests[i].parameter, requests[i].sample) : refused(18);
     }
-    return join(&v, before, words, v.samples + 8 * (get2(e + 8) + sample - 1), e[3] & 1);
+    return (orb_paged){0, (uint32_t)requests_len};
 }
 
 /* The values of all samples of a frame; 0 where it is refused. */

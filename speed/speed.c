@@ -1,7 +1,7 @@
 /* The proved functions and the plain C side by side, on the same inputs, in one run: only the ratio counts. Every answer,
- * and every byte written, is held to be the same before anything is timed. */
+ * and every byte written, is held to be the same before anything is timed. Pages are in speed_page.c. */
 #include "calls.h"
-#include "plain.h"
+#include "speed.h"
 
 /* The header has no call for all samples of a frame: crates/speedlib has one, for measuring alone. Without that crate its
  * rows are left out. */
@@ -116,14 +116,14 @@ static void carded(uint32_t subframes) {
 
 /* ---- the same answers ---- */
 
-static void same(bool is_same, const char *what, const char *size) {
+void same(bool is_same, const char *what, const char *size) {
     if (!is_same) {
         printf("DIFFERS: %s, %s\n", what, size);
         differences++;
     }
 }
 
-static bool same_sample(orb_sample a, orb_sample b) {
+bool same_sample(orb_sample a, orb_sample b) {
     return a.number == b.number && a.kind == b.kind && a.width == b.width && a.raw == b.raw && a.value == b.value;
 }
 
@@ -172,8 +172,6 @@ static double now(void) {
     clock_gettime(1, &t);
     return (double)t.seconds * 1e6 + (double)t.nanoseconds / 1e3;
 }
-
-typedef void job(void);
 
 static void proved_card(void) {
     kept += 1 + orb_card(proved_table, table_length, stream, STREAM, words, WORDS).position;
@@ -224,7 +222,7 @@ static uint32_t calls_of(job *f) {
 }
 
 /* The best of the rounds, in which the two take turns: what else the machine does slows both. */
-static void timed(job *proved, job *plain, double *a, double *b) {
+void timed(job *proved, job *plain, double *a, double *b) {
     uint32_t p = calls_of(proved), q = calls_of(plain);
     *a = *b = 1e18;
     for (int r = 0; r < ROUNDS; r++) {
@@ -234,7 +232,7 @@ static void timed(job *proved, job *plain, double *a, double *b) {
     }
 }
 
-static void line(const char *what, const char *size, double a, double b, const char *goal) {
+void line(const char *what, const char *size, double a, double b, const char *goal) {
     printf("| %-26s | %-21s | %10.2f | %10.2f | %6.2f | %-4s |\n", what, size, a, b, a / b, goal);
 }
 
@@ -365,13 +363,16 @@ int main(void) {
     printf("|---|---|---|---|---|---|\n");
     wall();
     measured("wall, 2 parameters");
+    measured_pages(proved_table, table_length, words, word_count, "wall, 2 parameters");
     many(120, 64);
     measured("8 KB, 120 parameters");
+    measured_pages(proved_table, table_length, words, word_count, "8 KB, 120 parameters");
     many(512, 512);
     filled(65536);
     measured("64 KB, 512 parameters");
     sampled_much(64);
     measured("4,096 samples");
+    measured_pages(proved_table, table_length, words, word_count, "4,096 samples");
     overlapped(120, 64);
     measured("120 with overlap");
     same_kinds("120 with overlap");

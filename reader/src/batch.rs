@@ -1,5 +1,6 @@
 //! A batch of cases and listings, made from a seed.
 
+use crate::asking;
 use crate::breaks;
 use crate::card_cases;
 use crate::card_listings::{self, CardListing};
@@ -13,6 +14,7 @@ use crate::lawful;
 use crate::listings::{self, Listing};
 use crate::making;
 use crate::overlap_cases;
+use crate::page_cases;
 use crate::random::Random;
 use crate::sheets;
 
@@ -87,6 +89,9 @@ fn case(random: &mut Random, index: usize, stride: &Stride) -> Case {
     if let Some(case) = large_card(random, index, stride) {
         return case;
     }
+    if stride.large(index, 3000, 411).is_some() {
+        return page_cases::of_many_samples(random);
+    }
     let in_turn = match (stride.turn(index, 7, 5), stride.turn(index, 61, 40)) {
         (Some(turn), _) => Some(sheets::misspelled_in_turn(random, stride.start + turn)),
         (_, Some(turn)) => Some(sheets::misordered_in_turn(random, stride.start + turn)),
@@ -112,13 +117,14 @@ fn large_card(random: &mut Random, index: usize, stride: &Stride) -> Option<Case
 fn drawn(random: &mut Random) -> Case {
     match random.below(100) {
         0..=34 => drawn_make(random),
-        35..=50 => check(random),
-        51..=58 => read(random),
-        59..=66 => place(random),
-        67..=72 => compare(random),
-        73..=75 => name(random),
-        76..=79 => mnemonic(random),
-        80..=84 => overlap_cases::drawn(random),
+        35..=48 => check(random),
+        49..=56 => read(random),
+        57..=64 => place(random),
+        65..=70 => compare(random),
+        71..=73 => name(random),
+        74..=77 => mnemonic(random),
+        78..=82 => overlap_cases::drawn(random),
+        83..=88 => page_cases::drawn(random),
         _ => card_cases::drawn(random),
     }
 }
@@ -245,37 +251,17 @@ fn frame(random: &mut Random, contents: &Contents, spoiled_percent: usize) -> Ve
     frames::fitting(random, contents)
 }
 
-/// Numbers in range, mostly, or just beyond it, or far from it.
-fn asked(random: &mut Random, count: usize) -> u32 {
-    let inside = random.between(1, count.max(1)) as u32;
-    match random.below(24) {
-        0 => 0,
-        1 => count as u32 + 1,
-        2 => 65_536 + inside,
-        3 => 256 + inside,
-        4 => *random.pick(&[u32::MAX, 1 << 31, 1000]),
-        _ => inside,
-    }
-}
-
-fn asked_numbers(random: &mut Random, contents: &Contents) -> (u32, u32) {
-    let parameter = asked(random, contents.parameters.len());
-    let index = (parameter as usize).wrapping_sub(1);
-    let samples = contents.parameters.get(index).map_or(1, |p| p.samples.len());
-    (parameter, asked(random, samples))
-}
-
 fn read(random: &mut Random) -> Case {
     let (table, contents) = table(random, 8);
     let frame = frame(random, &contents, 25);
-    let (parameter, sample) = asked_numbers(random, &contents);
+    let (parameter, sample) = asking::numbers(random, &contents);
     Case::Read { table, frame, parameter, sample }
 }
 
 fn place(random: &mut Random) -> Case {
     let (table, contents) = table(random, 6);
     let frame = frame(random, &contents, 20);
-    let (parameter, sample) = asked_numbers(random, &contents);
+    let (parameter, sample) = asking::numbers(random, &contents);
     let value = value(random, &contents, parameter);
     Case::Place { table, frame, parameter, sample, value }
 }
@@ -319,7 +305,7 @@ fn compare(random: &mut Random) -> Case {
 
 fn name(random: &mut Random) -> Case {
     let (table, contents) = table(random, 10);
-    let parameter = asked(random, contents.parameters.len());
+    let parameter = asking::number(random, contents.parameters.len());
     Case::Name { table, parameter }
 }
 

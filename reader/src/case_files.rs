@@ -1,6 +1,10 @@
 //! Answers to a whole case file, as the trial program must write them.
 
 use crate::cases::Case;
+use crate::paging::Request;
+
+/// The most results lent for a page.
+const MOST_RESULTS: usize = 2_000;
 
 /// A line a case; one more where the file does not end after a whole case.
 pub fn answers(file: &[u8]) -> Vec<String> {
@@ -55,13 +59,26 @@ impl Rest<'_> {
         Some(taken.chunks(2).map(|pair| u16::from_le_bytes([pair[0], pair[1]])).collect())
     }
 
+    fn requests(&mut self) -> Option<Vec<Request>> {
+        let count = self.count()?;
+        let taken = self.take(8 * count)?.chunks(4);
+        let numbers: Vec<u32> =
+            taken.filter_map(|four| four.try_into().ok().map(u32::from_le_bytes)).collect();
+        Some(numbers.chunks(2).map(|pair| Request { parameter: pair[0], sample: pair[1] }).collect())
+    }
+
+    fn page(&mut self, table: Vec<u8>) -> Option<Case> {
+        let (frame, requests, lent) = (self.words()?, self.requests()?, self.count()?);
+        (lent <= MOST_RESULTS).then_some(Case::Page { table, frame, requests, lent })
+    }
+
     /// None for another kind too.
     fn case(&mut self) -> Option<Case> {
         let kind = self.take(1)?[0];
         if kind == 1 {
             return Some(Case::Make { sheet: self.bytes()?, lent: self.count()? });
         }
-        if !(2..=8).contains(&kind) && kind != 10 {
+        if !(2..=10).contains(&kind) {
             return None;
         }
         let table = self.bytes()?;
@@ -76,6 +93,7 @@ impl Rest<'_> {
             6 => Case::Name { table, parameter: self.u32()? },
             7 => Case::Mnemonic { table, mnemonic: self.bytes()? },
             8 => Case::Card { table, stream: self.bytes()?, lent: self.count()? },
+            9 => self.page(table)?,
             _ => Case::CardFrom { table, stream: self.bytes()?, from: self.u32()?, lent: self.count()? },
         })
     }
@@ -94,6 +112,18 @@ mod tests {
         for packed in folders::pack(&batch) {
             assert_eq!(answers(&packed.bytes), folders::expected_lines(&packed, &lines));
         }
+    }
+
+    #[test]
+    fn pages_cut_off_and_beyond_their_limit() {
+        let requests = vec![Request { parameter: 1, sample: 2 }; 2];
+        let page = |lent| Case::Page { table: vec![9], frame: vec![5], requests: requests.clone(), lent };
+        let bytes = page(2_000).bytes();
+        assert!(answers(&bytes)[0].starts_with("9 0 2 "));
+        for length in 1..bytes.len() {
+            assert_eq!(answers(&bytes[..length]), ["end of cases"]);
+        }
+        assert_eq!(answers(&page(2_001).bytes()), ["end of cases"]);
     }
 
     #[test]

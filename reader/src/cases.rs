@@ -7,6 +7,7 @@ use crate::checking;
 use crate::comparing;
 use crate::making;
 use crate::naming::{self, Part};
+use crate::paging::{self, Request, Slot};
 use crate::placing;
 use crate::reading;
 use crate::wrong;
@@ -21,6 +22,7 @@ pub enum Case {
     Name { table: Vec<u8>, parameter: u32 },
     Mnemonic { table: Vec<u8>, mnemonic: Vec<u8> },
     Card { table: Vec<u8>, stream: Vec<u8>, lent: usize },
+    Page { table: Vec<u8>, frame: Vec<u16>, requests: Vec<Request>, lent: usize },
     CardFrom { table: Vec<u8>, stream: Vec<u8>, from: u32, lent: usize },
 }
 
@@ -29,6 +31,9 @@ const BEFORE: u8 = 165;
 
 /// What stands in lent words before the call.
 const BEFORE_WORDS: u16 = 42_405;
+
+/// What stands in lent results before the call.
+const BEFORE_RESULTS: Slot = Slot { number: 42_405, kind: 42_405, width: 42_405, raw: 42_405, value: 42_405 };
 
 impl Case {
     pub fn kind(&self) -> u8 {
@@ -41,6 +46,7 @@ impl Case {
             Case::Name { .. } => 6,
             Case::Mnemonic { .. } => 7,
             Case::Card { .. } => 8,
+            Case::Page { .. } => 9,
             Case::CardFrom { .. } => 10,
         }
     }
@@ -73,6 +79,12 @@ impl Case {
                 put_bytes(&mut out, mnemonic);
             }
             Case::Card { table, stream, lent } => put_card(&mut out, table, stream, &[*lent as u32]),
+            Case::Page { table, frame, requests, lent } => {
+                put_bytes(&mut out, table);
+                put_words(&mut out, frame);
+                put_requests(&mut out, requests);
+                out.extend((*lent as u32).to_le_bytes());
+            }
             Case::CardFrom { table, stream, from, lent } => {
                 put_card(&mut out, table, stream, &[*from, *lent as u32]);
             }
@@ -115,6 +127,7 @@ impl Case {
             Case::Card { table, stream, lent } => {
                 card_line(8, *lent, |words| carding::card(table, stream, words))
             }
+            Case::Page { table, frame, requests, lent } => page_line(table, frame, requests, *lent),
             Case::CardFrom { table, stream, from, lent } => {
                 card_line(10, *lent, |words| carding::card_from(table, stream, *from, words))
             }
@@ -148,6 +161,20 @@ fn card_line(kind: u8, lent: usize, call: impl Fn(&mut [u16]) -> Result<Found, u
     format!("{kind} {number} {} {} {sum}", found.position, found.count)
 }
 
+fn page_line(table: &[u8], frame: &[u16], requests: &[Request], lent: usize) -> String {
+    let mut slots = vec![BEFORE_RESULTS; lent];
+    let paged = paging::page(table, frame, requests, &mut slots);
+    let sum = sum(slots.iter().flat_map(slot_items));
+    format!("9 {} {} {sum}", paged.number, paged.count)
+}
+
+/// The value is two numbers: its low 32 bits, then its high ones.
+fn slot_items(slot: &Slot) -> [u64; 6] {
+    let value = slot.value as u64;
+    let [number, kind, width, raw] = [slot.number, slot.kind, slot.width, slot.raw].map(u64::from);
+    [number, kind, width, raw, value & 0xFFFF_FFFF, value >> 32]
+}
+
 pub fn sum(items: impl Iterator<Item = u64>) -> u64 {
     items.fold(0, |h, x| (h * 257 + x + 1) % 4_294_967_291)
 }
@@ -163,6 +190,14 @@ fn put_card(out: &mut Vec<u8>, table: &[u8], stream: &[u8], numbers: &[u32]) {
     put_bytes(out, table);
     put_bytes(out, stream);
     out.extend(numbers.iter().flat_map(|number| number.to_le_bytes()));
+}
+
+fn put_requests(out: &mut Vec<u8>, requests: &[Request]) {
+    out.extend((requests.len() as u32).to_le_bytes());
+    for request in requests {
+        out.extend(request.parameter.to_le_bytes());
+        out.extend(request.sample.to_le_bytes());
+    }
 }
 
 fn put_bytes(out: &mut Vec<u8>, bytes: &[u8]) {

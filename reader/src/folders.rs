@@ -7,6 +7,7 @@ use std::path::{Path, PathBuf};
 use crate::batch::Batch;
 use crate::card_listings::CardListing;
 use crate::listings::Listing;
+use crate::page_cases;
 use crate::random::Random;
 
 const FILE_LIMIT: usize = 500_000;
@@ -43,13 +44,15 @@ pub fn pack(batch: &Batch) -> Vec<Packed> {
     all
 }
 
-/// In two of three files a case that is cut off or of another kind follows.
+/// In most files a case that is cut off, beyond a limit or of another kind
+/// follows.
 fn add_ending(random: &mut Random, packed: &mut Packed, batch: &Batch) {
-    let ending = match random.below(6) {
+    let ending = match random.below(7) {
         0 | 1 => return,
-        2 => vec![*random.pick(&[0, 9, 11, 49, 255])],
+        2 => vec![*random.pick(&[0, 11, 12, 49, 255])],
         3 => [vec![0], batch.cases[packed.first].bytes()].concat(),
-        4 => vec![*random.pick(&[1, 2, 3, 4, 5, 6, 7, 8, 10]), 255, 255, 255, 255, 1],
+        4 => vec![*random.pick(&[1, 2, 3, 4, 5, 6, 7, 8, 9, 10]), 255, 255, 255, 255, 1],
+        5 => page_cases::beyond_the_limit().bytes(),
         _ => {
             let case = random.pick(&batch.cases).bytes();
             let length = random.between(1, case.len() - 1);

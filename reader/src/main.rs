@@ -1,6 +1,7 @@
 //! An independent reader of location sheets: computes what each call must
 //! answer, and compares the answers with those of the library's programs.
 
+mod asking;
 mod batch;
 mod breaks;
 mod card_cases;
@@ -34,6 +35,11 @@ mod misspellings;
 mod naming;
 mod overlap_breaks;
 mod overlap_cases;
+mod page_cases;
+mod page_listing;
+#[macro_use]
+mod page_readings;
+mod paging;
 mod placing;
 mod random;
 mod reading;
@@ -44,6 +50,7 @@ mod sheets;
 mod shortest;
 mod smallest;
 mod smallest_overlap;
+mod smallest_page;
 mod spelling;
 mod streams;
 mod switched;
@@ -64,6 +71,7 @@ const USAGE: &str = "usage:
   reader answers FILE
   reader smallest [--out FILE]
   reader list [--card] DIR
+  reader page DIR
   reader judge FILE";
 
 fn main() -> ExitCode {
@@ -93,6 +101,7 @@ fn command(arguments: &[String]) -> Result<bool, String> {
         ("smallest", options) => smallest(option(options, "--out").map(Path::new)),
         ("list", [folder]) => list(Path::new(folder)),
         ("list", [option, folder]) if option == "--card" => list_card(Path::new(folder)),
+        ("page", [folder]) => page(Path::new(folder)),
         ("judge", [file]) => judge(Path::new(file)),
         _ => Err(USAGE.to_string()),
     }
@@ -203,6 +212,13 @@ fn list_card(folder: &Path) -> Result<bool, String> {
     let sheet = file_or_empty(&folder.join("sheet.frcs"));
     let stream = file_or_empty(&folder.join("card.bin"));
     io::stdout().write_all(&card_listing::listing(&sheet, &stream)).map_err(said)?;
+    Ok(true)
+}
+
+fn page(folder: &Path) -> Result<bool, String> {
+    let file = |name| file_or_empty(&folder.join(name));
+    let text = page_listing::listing(&file("sheet.frcs"), &file("frame.bin"), &file("page.txt"))?;
+    io::stdout().write_all(&text).map_err(said)?;
     Ok(true)
 }
 

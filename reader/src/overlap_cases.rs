@@ -17,7 +17,7 @@ pub fn drawn(random: &mut Random) -> Case {
 }
 
 /// Lawful contents of which some sample that is wanted has overlap.
-fn contents_with(random: &mut Random, wanted: fn(&Parameter) -> bool) -> Contents {
+pub fn contents_with(random: &mut Random, wanted: fn(&Parameter) -> bool) -> Contents {
     loop {
         let contents = lawful::with_parameters(random);
         let has = |p: &Parameter| wanted(p) && p.samples.iter().any(Sample::has_overlap);

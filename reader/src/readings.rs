@@ -11,7 +11,7 @@ macro_rules! switches {
     };
 }
 
-switches! {
+with_pages! { switches! {
     B1a, "B1a", "a sheet of exactly 65,536 bytes is 1";
     B1b, "B1b", "1 only after the lines were judged";
     B2, "B2", "line length counted after trimming";
@@ -395,4 +395,4 @@ switches! {
     CardsEndRefused, "cards-end-refused", "cards: no further frame refuses the card";
     CardsOverlap, "cards-overlap", "cards: no row where copies differ";
     CardsHeadings, "cards-headings", "cards: a heading for each frame";
-}
+} }

@@ -1,11 +1,12 @@
-//! Smallest cases of each form and of the card calls, for the trial program's
-//! stored case file.
+//! Smallest cases of each form, of the card calls, of overlap and of pages,
+//! for the trial program's stored case file.
 
 use crate::cases::Case;
 use crate::judging;
 use crate::listings::wall_with;
 use crate::making;
 use crate::smallest_overlap;
+use crate::smallest_page;
 
 /// Each with what it shows.
 pub type Shown = (&'static str, Case);
@@ -13,7 +14,7 @@ pub type Shown = (&'static str, Case);
 pub fn cases() -> Vec<Shown> {
     let forms = [made(), checked(), of_unknown_margins()].concat();
     let cards = [found(), refused(), margins_unknown(), positions(), unlike_subframes(), from_on()].concat();
-    [forms, cards, smallest_overlap::cases()].concat()
+    [forms, cards, smallest_overlap::cases(), smallest_page::cases()].concat()
 }
 
 const BARE: &str = "HEADER:\n2.0,,A,,,1,,,True,,,1,,\nRECORD:\n12,4,,,1.0\nNONE\n";

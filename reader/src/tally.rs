@@ -5,11 +5,12 @@ use std::collections::BTreeMap;
 use crate::cases::number_of;
 
 /// The numbers that some call gives.
-const NUMBERS: [usize; 29] = [
-    1, 2, 3, 4, 5, 6, 7, 8, 9, 10, 11, 12, 13, 14, 15, 16, 17, 18, 19, 20, 21, 22, 23, 24, 25, 26, 27, 28, 38,
+const NUMBERS: [usize; 30] = [
+    1, 2, 3, 4, 5, 6, 7, 8, 9, 10, 11, 12, 13, 14, 15, 16, 17, 18, 19, 20, 21, 22, 23, 24, 25, 26, 27, 28,
+    29, 38,
 ];
 
-const KINDS: [(u8, &str); 9] = [
+const KINDS: [(u8, &str); 10] = [
     (1, "make"),
     (2, "check"),
     (3, "read"),
@@ -18,6 +19,7 @@ const KINDS: [(u8, &str); 9] = [
     (6, "name"),
     (7, "by mnemonic"),
     (8, "card"),
+    (9, "page"),
     (10, "card from"),
 ];
 

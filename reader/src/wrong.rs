@@ -59,4 +59,6 @@ pub const UNSEEN: &[(&str, &str)] = &[
         "R3 (pairs of copies)",
         "neighbours agree pair by pair exactly where every component is its bits of raw",
     ),
+    ("R5 (65,536 requests and more)", "a case file has no room for them"),
+    ("R5 (one judgement for all)", "how often a page judges table and frame is seen by its time alone"),
 ];

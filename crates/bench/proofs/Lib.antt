@@ -1,1 +1,4 @@
 pub mod TextLaws
+pub mod Walk
+pub mod Lent
+pub mod PageCalls

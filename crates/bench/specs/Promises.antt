@@ -12,6 +12,10 @@ use Rattle.table.specs.declared.check.Checked.{Checked}
 use Rattle.framing.specs.Reading.{readOf, readNumber}
 use Rattle.framing.specs.Placing.{placeOf, placedOf, placeNumber}
 use Rattle.framing.specs.Comparing.{comparedOf, comparedNumber}
+use Rattle.framing.specs.Paging.{pagedOf, resultsOf}
+use Rattle.framing.specs.declared.page.Request.{Request}
+use Rattle.framing.specs.declared.page.Outcome.{Outcome}
+use Rattle.framing.specs.declared.page.Paged.{Paged}
 use Rattle.framing.specs.declared.read.Reading.{Reading}
 use Rattle.framing.specs.declared.place.Placed.{Placed}
 use Rattle.framing.specs.declared.compare.Compared.{Compared}
@@ -69,6 +73,12 @@ Compares table words compared = compared ≡ comparedOf table words
 
 abbrev pub CompareNumbered : Compared → ℕ → Type 0
 CompareNumbered compared n = n ≡ comparedNumber compared
+
+-- ---- a page: table, words, requests, lent results; answer, the results afterwards
+
+abbrev pub Pages : List ℕ → List ℕ → List Request → List Outcome → Paged → List Outcome → Type 0
+Pages table words requests results paged after =
+    (paged ≡ pagedOf (length requests) (length results)) × (after ≡ resultsOf table words requests results)
 
 -- ---- a card: table, stream, the bit to begin at, lent words; answer, the words afterwards
 

@@ -8,13 +8,15 @@ use Rattle.table.specs.declared.check.Checked.{Checked}
 use Rattle.framing.specs.declared.read.Reading.{Reading}
 use Rattle.framing.specs.declared.place.Placed.{Placed}
 use Rattle.framing.specs.declared.compare.Compared.{Compared}
+use Rattle.framing.specs.declared.page.Request.{Request}
+use Rattle.framing.specs.declared.page.Outcome.{Outcome}
+use Rattle.framing.specs.declared.page.Paged.{Paged}
 use Rattle.carding.specs.declared.carded.Carded.{Carded}
-use Rattle.bench.specs.Promises.{Makes, MadeNumbered, Checks, CheckNumbered, Names, NameNumbered, NamesBy, NameByNumbered, Reads, ReadNumbered, Places, PlaceNumbered, Compares, CompareNumbered, Cards, CardNumbered, FrameBits}
+use Rattle.bench.specs.Promises.{Makes, MadeNumbered, Checks, CheckNumbered, Names, NameNumbered, NamesBy, NameByNumbered, Reads, ReadNumbered, Places, PlaceNumbered, Compares, CompareNumbered, Pages, Cards, CardNumbered, FrameBits}
 use Rattle.bench.specs.Texts.{Fills, WordsFill}
-use Rattle.ffi.specs.Promises.{MakesOut, ChecksOut, NamesOut, NamesByOut, ReadsOut, PlacesOut, ComparesOut, CardsOut, FrameBitsOut}
+use Rattle.ffi.specs.Promises.{MakesOut, ChecksOut, NamesOut, NamesByOut, ReadsOut, PlacesOut, ComparesOut, PagesOut, CardsOut, FrameBitsOut}
 use Rattle.ffi.specs.declared.sheets.OrbMade.{OrbMade}
 use Rattle.ffi.specs.declared.tables.OrbName.{OrbName}
-use Rattle.ffi.specs.declared.frames.OrbSample.{OrbSample}
 use Rattle.ffi.specs.declared.frames.OrbCompared.{OrbCompared}
 use Rattle.ffi.specs.declared.cards.OrbCarded.{OrbCarded}
 
@@ -71,6 +73,9 @@ compares-one t f r q h k = both h k
 pub compare-number-one : (r : Compared) (i j : ℕ) → CompareNumbered r i → CompareNumbered r j → i ≡ j
 compare-number-one r i j h k = both h k
 
+pub pages-one : (t f : List ℕ) (qs : List Request) (rs a b : List Outcome) (x y : Paged) → Pages t f qs rs x a → Pages t f qs rs y b → (x ≡ y) × (a ≡ b)
+pages-one t f qs rs a b x y h k = (both (h .0) (k .0), both (h .1) (k .1))
+
 pub cards-one : (t y w a b : List ℕ) (from : ℕ) (r q : Carded) → Cards t y from w r a → Cards t y from w q b → (r ≡ q) × (a ≡ b)
 cards-one t y w a b from r q h k = (both (h .0) (k .0), both (h .1) (k .1))
 
@@ -100,7 +105,7 @@ names-out-one t p x y h k = both h k
 pub names-by-out-one : (t m : List ℕ) (x y : OrbName) → NamesByOut t m x → NamesByOut t m y → x ≡ y
 names-by-out-one t m x y h k = both h k
 
-pub reads-out-one : (t f : List ℕ) (p s : ℕ) (x y : OrbSample) → ReadsOut t f p s x → ReadsOut t f p s y → x ≡ y
+pub reads-out-one : (t f : List ℕ) (p s : ℕ) (x y : Outcome) → ReadsOut t f p s x → ReadsOut t f p s y → x ≡ y
 reads-out-one t f p s x y h k = both h k
 
 pub places-out-one : (t f a b : List ℕ) (p s v i j : ℕ) → PlacesOut t f p s v i a → PlacesOut t f p s v j b → (i ≡ j) × (a ≡ b)
@@ -108,6 +113,9 @@ places-out-one t f a b p s v i j h k = (both (h .0) (k .0), both (h .1) (k .1))
 
 pub compares-out-one : (t f : List ℕ) (x y : OrbCompared) → ComparesOut t f x → ComparesOut t f y → x ≡ y
 compares-out-one t f x y h k = both h k
+
+pub pages-out-one : (t f : List ℕ) (qs : List Request) (rs a b : List Outcome) (x y : Paged) → PagesOut t f qs rs x a → PagesOut t f qs rs y b → (x ≡ y) × (a ≡ b)
+pages-out-one t f qs rs a b x y h k = (both (h .0) (k .0), both (h .1) (k .1))
 
 pub cards-out-one : (t y w a b : List ℕ) (from : ℕ) (r q : OrbCarded) → CardsOut t y from w r a → CardsOut t y from w q b → (r ≡ q) × (a ≡ b)
 cards-out-one t y w a b from r q h k = (both (h .0) (k .0), both (h .1) (k .1))

@@ -1,5 +1,6 @@
 pub mod Numbers
 pub mod Parts
+pub mod Pages
 pub mod Meeting
 pub mod Ours
 pub mod Told
@@ -14,6 +15,8 @@ pub mod AsBefore
 pub mod Wall
 pub mod Useless
 pub mod UselessCards
+pub mod PageEnd
+pub mod UselessPages
 pub mod Slips
 pub mod Overlapping
 pub mod Bad

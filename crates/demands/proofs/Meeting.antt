@@ -8,7 +8,7 @@ use mathlib.Core.Logic.{_⊎_, inl, inr}
 use denote.Ref.{now}
 use borrow.Author.Tests.{le-leb, lt-leb}
 use lib.Dec.{ltb}
-use lib.ListN.{length, take, drop}
+use lib.ListN.{length, getD, take, drop}
 use Rattle.text.specs.declared.refusal.Refusal.{Refusal}
 use Rattle.text.specs.declared.refusal.Refusal.the-variants.{TableTooSmall}
 use Rattle.lay.specs.Bytes.{AreBytes}
@@ -38,21 +38,27 @@ use Rattle.framing.specs.Wanted.{wantedOf}
 use Rattle.framing.specs.Reading.{rawOf, widthIs, valueOf, copiesAgree, sampleRead, readOf, readNumber}
 use Rattle.framing.specs.Placing.{lapsIn, placeFor, placeOf, placedFor, placedOf, placeNumber}
 use Rattle.framing.specs.Comparing.{comparedNumber}
+use Rattle.framing.specs.Outcomes.{outcomeOf}
+use Rattle.framing.specs.declared.page.Request.{Request}
+use Rattle.framing.specs.declared.page.Outcome.{Outcome}
+use Rattle.framing.specs.declared.page.Paged.{Paged}
 use Rattle.framing.specs.declared.want.Wanted.{Wanted}
 use Rattle.framing.specs.declared.want.Wanted.the-variants as wanted
 use Rattle.framing.specs.declared.place.Placed.the-variants as placing
 use Rattle.table.specs.declared.reason.Reason.the-variants.{Overlapped}
 use Rattle.framing.proofs.Agree.{Lists, answers-bits, bits-answers}
 use Rattle.framing.proofs.Answered.{answered, raw-below}
+use Rattle.framing.proofs.Pages.{page-all, each-result, later-result, as-many-results}
 use Rattle.framing.proofs.PlaceRead.{placing as placing-done, placed-other as other-kept, placed-read}
 use Rattle.carding.specs.Answer.{cardedNumber}
 use Rattle.carding.specs.declared.carded.Carded.the-variants.{Found}
 use Rattle.carding.proofs.Next.{found-stands}
 use Rattle.demands.specs.Calls.{Calls, Kept}
-use Rattle.demands.specs.Refusing.{sampleOf, componentsOf, wholesOf, firstBroken, cardRules}
-use Rattle.demands.specs.Demands.{HasSample, meaning, answerFor, agreeIn, answerIn, Fitting, SheetRefused, One, SheetTaken, NameAnswered, Two, SameAnswers, SameBits, NoOverlap, FrameHanded, FrameFits, Three, Demands}
+use Rattle.demands.specs.Refusing.{sampleOf, componentsOf, wholesOf, firstBroken, cardRules, pageRules}
+use Rattle.demands.specs.Demands.{HasSample, meaning, answerFor, agreeIn, answerIn, Fitting, SheetRefused, One, SheetTaken, NameAnswered, Two, SameAnswers, SameBits, NoOverlap, PageRead, FrameHanded, FrameFits, Three, Demands}
 use Rattle.demands.proofs.Numbers.{check-number, read-number, place-number, compare-number, name-number, mnemonic-number}
 use Rattle.demands.proofs.Cards.{card-number, bits-known, bits-unknown, card-unchanged, findable, frame-handed, front-meets, front-passes, found-findable}
+use Rattle.demands.proofs.Pages.{page-number, page-passing, uncounted, unwritten}
 use Rattle.demands.proofs.Parts.{unnamed-part, name-asked, mnemonic-asked, named-part, first-differing}
 
 -- ---- what a check that passes says
@@ -154,6 +160,8 @@ module _ (B : Calls) (K : Kept B) where
         place-unchanged = λ t f p s v n. K .places t f p s v .1 ∙ placing-unchanged t f p s v (λ e. n (sym (place-number t f p s v) ∙ e));
         compares = λ t f. ap comparedNumber (K .compares t f) ∙ compare-number t f;
         subframe-told = λ t f s e. first-differing t f s (sym (K .compares t f) ∙ e);
+        pages = λ t f qs rs. ap (λ (p : Paged). p .number) (K .pages t f qs rs .0) ∙ page-number qs rs;
+        page-unchanged = λ t f qs rs n. record { count = ap (λ (p : Paged). p .count) (K .pages t f qs rs .0) ∙ uncounted qs rs n; results = K .pages t f qs rs .1 ∙ unwritten qs rs t f n };
         names = λ t p. K .names-numbered t p ∙ name-number t p;
         unnamed = λ t p n. unnamed-part t (B .name t p) (askedNumber (now t) p) (K .names t p) (λ e. n (sym (name-number (now t) p) ∙ e));
         mnemonics = λ t m. K .names-by-numbered t m ∙ mnemonic-number t m;
@@ -235,6 +243,18 @@ module _ (B : Calls) (K : Kept B) where
   frame-found : (t y : List ℕ) (from : ℕ) (w : List ℕ) → firstBroken (cardRules t y from w) ≡ 0 → FrameHanded (view t) y from w (B .cardFrom t y from w) (B .handedFrom t y from w)
   frame-found t y from w e = rw (K .cards-from t y from w .0, K .cards-from t y from w .1) (frame-handed t y from w (findable t y from w e))
 
+  -- a page is read request by request
+  page-read : (t f : List ℕ) (qs : List Request) (rs : List Outcome) → firstBroken (pageRules qs rs) ≡ 0 → PageRead B t f qs rs
+  page-read t f qs rs h =
+      let p = page-passing qs rs h in
+      let e = K .pages t f qs rs in
+      record {
+        count = ap (λ (x : Paged). x .count) (e .0 ∙ sym (page-all t f qs rs (p .few) (p .room) .answered));
+        long = ap length (e .1) ∙ as-many-results t f qs rs (p .few) (p .room);
+        each = λ i q r l. ap (λ (ys : List Outcome). getD ys i r) (e .1) ∙ each-result t f qs rs (p .few) (p .room) i q r l ∙ ap outcomeOf (sym (K .reads t f (getD qs i q .parameter) (getD qs i q .sample)));
+        beyond = λ i r l. ap (λ (ys : List Outcome). getD ys i r) (e .1) ∙ later-result t f qs rs (p .few) (p .room) i r l;
+      }
+
   pub two : Two B
   two =
       record {
@@ -242,6 +262,7 @@ module _ (B : Calls) (K : Kept B) where
         named = named;
         joined = λ t f p s h l. read-joined t (h .passes) p s l f (h .fits);
         placed = λ t f p s v h l z d. record { done = value-done t (h .passes) p s l z f (h .fits) v d; back = read-back t (h .passes) p s l z f (h .fits) v d; other = kept-outside t (h .passes) p s l z f (h .fits) v d };
+        pages = page-read;
         found = frame-found;
         first-of-all = λ t y w. record { answer = K .cards t y w .0 ∙ sym (K .cards-from t y 0 w .0); words = K .cards t y w .1 ∙ sym (K .cards-from t y 0 w .1) };
         frame-bits = λ t h. K .counts-bits t ∙ bits-known t h;

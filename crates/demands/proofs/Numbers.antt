@@ -21,7 +21,7 @@ use Rattle.table.specs.Answers.{checkOf, checkNumber, numberedOf, mnemonicIs, c
 use Rattle.table.specs.declared.check.Checked.the-variants as checked
 use Rattle.table.specs.declared.naming.Asked.the-variants as asked
 use Rattle.framing.specs.Fitting.{fitOf}
-use Rattle.framing.specs.Wanted.{hasParameter, hasSample, fitted, wantedIn, wantedOf}
+use Rattle.framing.specs.Wanted.{hasParameter, hasSample, fitted, wantedBy, wantedOf}
 use Rattle.framing.specs.Reading.{rawOf, widthIs, valueOf, copiesAgree, readFor, readOf, readNumber, sampleRead}
 use Rattle.framing.specs.declared.read.Reading.the-variants.{Sample, OverlapDiffers}
 use Rattle.framing.specs.Placing.{lapsIn, placeFor, placeOf, placeNumber}
@@ -74,7 +74,7 @@ number-by true true true true false i j = refl
 number-by true true true true true i j = refl
 
 wanted-number : (t f : List ℕ) (p s : ℕ) → wantedNumber (wantedOf t f p s) ≡ firstBroken (readRules t f p s)
-unfolding wantedOf wantedIn fitOf firstBroken
+unfolding wantedOf wantedBy fitOf firstBroken
 wanted-number t f p s = number-by (accepts t) (hasParameter (view t) p) (hasSample (view t) p s) (asManyWords (view t) f) (wordsOk (view t) f) (p - 1) (s - 1)
 
 pub read-number : (t f : List ℕ) (p s : ℕ) → readNumber (readOf t f p s) ≡ firstBroken (readRules t f p s)
@@ -90,7 +90,7 @@ read-number t f p s = go (wantedOf t f p s) ∙ wanted-number t f p s
     go (wanted.Refused r) = refl
 
 pub place-number : (t f : List ℕ) (p s v : ℕ) → placeNumber (placeOf t f p s v) ≡ firstBroken (placeRules t f p s v)
-unfolding placeOf lapsIn placeFor placeNumber reasonNumber wantedOf wantedIn fitted fitOf widthIs widthOf componentsOf firstBroken
+unfolding placeOf lapsIn placeFor placeNumber reasonNumber wantedOf wantedBy fitted fitOf widthIs widthOf componentsOf firstBroken
 place-number t f p s v =
     go (accepts t) (hasParameter (view t) p) (hasSample (view t) p s) (overlapped (sampleOf (view t) p s)) (asManyWords (view t) f) (wordsOk (view t) f)
   where

@@ -9,7 +9,9 @@ use mathlib.Core.List.{List}
 use mathlib.Core.Logic.{inl, inr}
 use denote.Ref.{RefT, now}
 use borrow.Author.Tests.{le-leb, lt-leb, ltb-true}
-use lib.ListN.{length, take, take-append-drop}
+use lib.ListN.{length, getD, take, take-append-drop}
+use lib.IntN.{pos}
+use lib.Seq.{ext-getD}
 use Rattle.sample.specs.Component.{Place, Named}
 use Rattle.sample.specs.declared.component.Component.{Component}
 use Rattle.sample.specs.Joining.{join, width}
@@ -29,17 +31,22 @@ use Rattle.grammar.specs.Says.{Says}
 use Rattle.grammar.proofs.Accepted.{accepted-says}
 use Rattle.maker.specs.Made.{madeOf, leftOf}
 use Rattle.maker.specs.declared.make.Made.the-variants as made
-use Rattle.bench.specs.Promises.{Makes, Names, NamesBy, Cards, FrameBits}
+use Rattle.bench.specs.Promises.{Makes, Pages, Names, NamesBy, Cards, FrameBits}
 use Rattle.table.specs.Answers.{NameOf, checkOf, askedNumber, askedMnemonic, askedRefusal, nameAnswered, placeAnswered}
 use Rattle.table.specs.declared.naming.Asked.{Asked}
 use Rattle.table.specs.declared.naming.Asked.the-variants as asked
 use Rattle.framing.specs.Reading.{readOf, readNumber}
+use Rattle.framing.specs.Outcomes.{outcomeOf}
+use Rattle.framing.specs.Paging.{pagedOf, resultsOf}
+use Rattle.framing.specs.declared.page.Request.{Request}
+use Rattle.framing.specs.declared.page.Outcome.{Outcome}
 use Rattle.framing.specs.Placing.{placeOf, placedOf}
 use Rattle.framing.specs.Comparing.{comparedOf}
 use Rattle.demands.specs.Calls.{Calls, Kept}
-use Rattle.demands.specs.Refusing.{sampleOf, componentsOf, firstBroken, readRules, placeRules, nameRules, mnemonicRules, cardRules, bitsRules}
-use Rattle.demands.specs.Demands.{answerFor, Fitting, EmptyPart, NamePart, ValuePlaced, Demands}
+use Rattle.demands.specs.Refusing.{sampleOf, componentsOf, firstBroken, readRules, placeRules, nameRules, mnemonicRules, cardRules, bitsRules, pageRules}
+use Rattle.demands.specs.Demands.{answerFor, Fitting, EmptyPart, NamePart, ValuePlaced, PageRead, Demands}
 use Rattle.demands.proofs.Numbers.{read-number, place-number, compare-number, name-number, mnemonic-number}
+use Rattle.demands.proofs.Pages.{same-paged, page-number, uncounted, unwritten}
 use Rattle.demands.proofs.Parts.{name-asked, mnemonic-found, first-differing}
 use Rattle.demands.proofs.Told.{raw-in, answer-raw, same-reading, same-placing, same-checked, same-compared}
 use Rattle.demands.proofs.Cards.{card-number, findable, handed-alike, same-carded}
@@ -55,6 +62,13 @@ one-frame g h cs l j o = frame-ext g h l (λ q. go q (ℕ-discrete (bitIn g q) (
     go : (q : Place) → Dec (bitIn g q ≡ bitIn h q) → bitIn g q ≡ bitIn h q
     go q (yes e) = e
     go q (no n) = o q (λ m. n (join-agree g h cs j q m))
+
+-- what stands past the end of a list
+abbrev nobody : Request
+nobody = record { parameter = 0; sample = 0 }
+
+abbrev nothing : Outcome
+nothing = record { number = 0; kind = 0; width = 0; raw = 0; value = pos 0 }
 
 some : (n : ℕ) → (0 < n → ⊥) → n ≡ 0
 some n h = omega arith
@@ -137,6 +151,29 @@ module _ (B : Calls) (D : Demands B) where
   compares t f =
       same-compared (view t) f (B .compare t f) (comparedOf t f) (D .one .compares t f ∙ sym (compare-number t f))
       (λ s e. D .one .subframe-told t f s e) (λ s e. first-differing t f s e)
+
+  -- ---- pages: answer by answer, and result by result
+
+  pages : (t f : List ℕ) (qs : List Request) (rs : List Outcome) → Pages t f qs rs (B .page t f qs rs) (B .paged t f qs rs)
+  pages t f qs rs = go (decLt 0 (firstBroken (pageRules qs rs)))
+    where
+      numbered : B .page t f qs rs .number ≡ pagedOf (length qs) (length rs) .number
+      numbered = D .one .pages t f qs rs ∙ sym (page-number qs rs)
+
+      one-result : PageRead B t f qs rs → PageRead ours t f qs rs → (i : ℕ) → Dec (i < length qs) → getD (B .paged t f qs rs) i nothing ≡ getD (resultsOf t f qs rs) i nothing
+      one-result a b i (yes l) = a .each i nobody nothing l ∙ ap outcomeOf (reads t f (getD qs i nobody .parameter) (getD qs i nobody .sample)) ∙ sym (b .each i nobody nothing l)
+      one-result a b i (no l) = a .beyond i nothing (omega arith) ∙ sym (b .beyond i nothing (omega arith))
+
+      go : Dec (0 < firstBroken (pageRules qs rs)) → Pages t f qs rs (B .page t f qs rs) (B .paged t f qs rs)
+      go (yes h) =
+          let a = D .one .page-unchanged t f qs rs (λ e. omega arith) in
+          (same-paged _ _ numbered (a .count ∙ sym (uncounted qs rs (λ e. omega arith))), a .results ∙ sym (unwritten qs rs t f (λ e. omega arith)))
+      go (no h) =
+          let a = D .two .pages t f qs rs (some _ h) in
+          let b = ours-meets .two .pages t f qs rs (some _ h) in (
+            same-paged _ _ numbered (a .count ∙ sym (b .count)),
+            ext-getD nothing (B .paged t f qs rs) (resultsOf t f qs rs) (a .long ∙ sym (b .long)) (λ i l. one-result a b i (decLt i (length qs))),
+          )
 
   -- ---- naming
 
@@ -227,6 +264,7 @@ module _ (B : Calls) (D : Demands B) where
         reads = reads;
         places = places;
         compares = compares;
+        pages = pages;
         names = names;
         names-numbered = λ t p. D .one .names t p ∙ sym (name-number t p);
         names-by = names-by;

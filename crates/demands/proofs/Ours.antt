@@ -11,6 +11,7 @@ use Rattle.table.specs.declared.naming.Asked.{Asked}
 use Rattle.framing.specs.Reading.{readOf}
 use Rattle.framing.specs.Placing.{placeOf, placedOf}
 use Rattle.framing.specs.Comparing.{comparedOf}
+use Rattle.framing.specs.Paging.{pagedOf, resultsOf}
 use Rattle.carding.specs.Answer.{cardedOf, handedOf, bitsOfFrame}
 use Rattle.demands.specs.Calls.{Calls, Kept}
 use Rattle.demands.specs.Demands.{Demands}
@@ -30,6 +31,8 @@ ours =
       place = placeOf;
       placed = placedOf;
       compare = comparedOf;
+      page = λ t f qs rs. pagedOf (length qs) (length rs);
+      paged = resultsOf;
       name = λ t p. answeredPart t (askedNumber (now t) p);
       nameNumber = λ t p. askedRefusal (askedNumber t p);
       nameBy = λ t m. answeredPart t (askedMnemonic (now t) m);
@@ -49,6 +52,7 @@ ours-kept =
       reads = λ t f p s. refl;
       places = λ t f p s v. (refl, refl);
       compares = λ t f. refl;
+      pages = λ t f qs rs. (refl, refl);
       names = λ t p. record { bytes = refl; own = record { block = refl; place = refl } };
       names-numbered = λ t p. refl;
       names-by = λ t m. record { bytes = refl; own = record { block = refl; place = refl } };

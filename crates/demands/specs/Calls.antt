@@ -7,8 +7,11 @@ use Rattle.table.specs.declared.check.Checked.{Checked}
 use Rattle.framing.specs.declared.read.Reading.{Reading}
 use Rattle.framing.specs.declared.place.Placed.{Placed}
 use Rattle.framing.specs.declared.compare.Compared.{Compared}
+use Rattle.framing.specs.declared.page.Request.{Request}
+use Rattle.framing.specs.declared.page.Outcome.{Outcome}
+use Rattle.framing.specs.declared.page.Paged.{Paged}
 use Rattle.carding.specs.declared.carded.Carded.{Carded}
-use Rattle.bench.specs.Promises.{Makes, Checks, Reads, Places, Compares, Names, NameNumbered, NamesBy, NameByNumbered, Cards, FrameBits}
+use Rattle.bench.specs.Promises.{Makes, Checks, Reads, Places, Compares, Pages, Names, NameNumbered, NamesBy, NameByNumbered, Cards, FrameBits}
 
 pub record Calls : Type 0 where
   -- sheet, lent bytes
@@ -22,6 +25,9 @@ pub record Calls : Type 0 where
   pub place : List ℕ → List ℕ → ℕ → ℕ → ℕ → Placed
   pub placed : List ℕ → List ℕ → ℕ → ℕ → ℕ → List ℕ
   pub compare : List ℕ → List ℕ → Compared
+  -- table, words, requests, lent results
+  pub page : List ℕ → List ℕ → List Request → List Outcome → Paged
+  pub paged : List ℕ → List ℕ → List Request → List Outcome → List Outcome
   -- table, parameter: a part of the table, and the number that a second call gives
   pub name : RefT (List ℕ) → ℕ → RefT (List ℕ)
   pub nameNumber : List ℕ → ℕ → ℕ
@@ -44,6 +50,7 @@ pub record Kept (B : Calls) : Type 0 where
   pub reads : (t f : List ℕ) (p s : ℕ) → Reads t f p s (B .read t f p s)
   pub places : (t f : List ℕ) (p s v : ℕ) → Places t f p s v (B .place t f p s v) (B .placed t f p s v)
   pub compares : (t f : List ℕ) → Compares t f (B .compare t f)
+  pub pages : (t f : List ℕ) (qs : List Request) (rs : List Outcome) → Pages t f qs rs (B .page t f qs rs) (B .paged t f qs rs)
   pub names : (t : RefT (List ℕ)) (p : ℕ) → Names t p (B .name t p)
   pub names-numbered : (t : List ℕ) (p : ℕ) → NameNumbered t p (B .nameNumber t p)
   pub names-by : (t : RefT (List ℕ)) (m : List ℕ) → NamesBy t m (B .nameBy t m)

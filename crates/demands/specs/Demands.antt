@@ -6,7 +6,7 @@ use mathlib.Core.List.{List, []}
 use mathlib.Core.Logic.{_⊎_, _↔_}
 use denote.Ref.{RefT, now}
 use lib.IntN.{ℤ, pos}
-use lib.ListN.{length, take, drop}
+use lib.ListN.{length, getD, take, drop}
 use Rattle.bits.specs.Sign.{signed}
 use Rattle.lay.specs.Bytes.{AreBytes}
 use Rattle.sample.specs.Component.{Place, Named}
@@ -28,10 +28,13 @@ use Rattle.maker.specs.declared.make.Made.the-variants as made
 use Rattle.table.specs.Answers.{checkNumber}
 use Rattle.table.specs.declared.check.Checked.the-variants.{Table}
 use Rattle.framing.specs.Reading.{readNumber}
+use Rattle.framing.specs.Outcomes.{outcomeOf}
 use Rattle.framing.specs.Placing.{placeNumber}
 use Rattle.framing.specs.Comparing.{differsIn, comparedNumber}
 use Rattle.framing.specs.declared.read.Reading.{Reading}
 use Rattle.framing.specs.declared.read.Reading.the-variants.{Sample, OverlapDiffers}
+use Rattle.framing.specs.declared.page.Request.{Request}
+use Rattle.framing.specs.declared.page.Outcome.{Outcome}
 use Rattle.framing.specs.declared.place.Placed.the-variants.{Done}
 use Rattle.framing.specs.declared.compare.Compared.the-variants.{Passes, Differs}
 use Rattle.carding.specs.Layout.{frameBits, Carries}
@@ -40,7 +43,7 @@ use Rattle.carding.specs.Answer.{cardedNumber}
 use Rattle.carding.specs.declared.carded.Carded.{Carded}
 use Rattle.carding.specs.declared.carded.Carded.the-variants.{Found}
 use Rattle.demands.specs.Calls.{Calls}
-use Rattle.demands.specs.Refusing.{sampleOf, componentsOf, wholesOf, firstBroken, checkRules, readRules, placeRules, compareRules, nameRules, mnemonicRules, cardRules, bitsRules}
+use Rattle.demands.specs.Refusing.{sampleOf, componentsOf, wholesOf, firstBroken, checkRules, readRules, placeRules, compareRules, nameRules, mnemonicRules, cardRules, bitsRules, pageRules}
 
 -- ---- words that the demands use
 
@@ -110,6 +113,11 @@ EmptyPart t r = PartOf t r 0 []
 abbrev pub NamePart : RefT (List ℕ) → RefT (List ℕ) → ℕ → Type 0
 NamePart t r i = PartOf t r (textPart (now t) + textStartIn (now t) i) (parameter (view (now t)) i .name)
 
+-- a page that is refused: "both write nothing"
+pub record NothingPaged (B : Calls) (t f : List ℕ) (qs : List Request) (rs : List Outcome) : Type 0 where
+  pub count : B .page t f qs rs .count ≡ 0
+  pub results : B .paged t f qs rs ≡ rs
+
 -- ---- 1. "Every sheet, table, frame, parameter number, sample number and value gets an answer. Bad input is refused by
 -- number, a bad sheet also by line .. A refusal changes no byte or word of the caller's."
 
@@ -124,6 +132,8 @@ pub record One (B : Calls) : Type 0 where
   pub place-unchanged : (t f : List ℕ) (p s v : ℕ) → (firstBroken (placeRules t f p s v) ≡ 0 → ⊥) → B .placed t f p s v ≡ f
   pub compares : (t f : List ℕ) → comparedNumber (B .compare t f) ≡ firstBroken (compareRules t f)
   pub subframe-told : (t f : List ℕ) (s : ℕ) → B .compare t f ≡ Differs s → FirstDiffering (view t) f s
+  pub pages : (t f : List ℕ) (qs : List Request) (rs : List Outcome) → B .page t f qs rs .number ≡ firstBroken (pageRules qs rs)
+  pub page-unchanged : (t f : List ℕ) (qs : List Request) (rs : List Outcome) → (firstBroken (pageRules qs rs) ≡ 0 → ⊥) → NothingPaged B t f qs rs
   pub names : (t : List ℕ) (p : ℕ) → B .nameNumber t p ≡ firstBroken (nameRules t p)
   pub unnamed : (t : RefT (List ℕ)) (p : ℕ) → (firstBroken (nameRules (now t) p) ≡ 0 → ⊥) → EmptyPart t (B .name t p)
   pub mnemonics : (t m : List ℕ) → B .nameByNumber t m ≡ firstBroken (mnemonicRules t m)
@@ -160,6 +170,15 @@ pub record ValuePlaced (B : Calls) (t f : List ℕ) (p s v : ℕ) : Type 0 where
   pub back : B .read t (B .placed t f p s v) p s ≡ answerFor (view t) p s v
   pub other : (q : Place) → (Named (componentsOf (view t) p s) q → ⊥) → bitIn (B .placed t f p s v) q ≡ bitIn f q
 
+-- a page: 02's "Each result equals what the single read answers, its refusal included", "results beyond the requests stay". It is the
+-- bench's own read, so that whatever is demanded of a read is demanded of every result
+pub record PageRead (B : Calls) (t f : List ℕ) (qs : List Request) (rs : List Outcome) : Type 0 where
+  pub count : B .page t f qs rs .count ≡ length qs
+  pub long : length (B .paged t f qs rs) ≡ length rs
+  pub each : (i : ℕ) (q : Request) (r : Outcome) → i < length qs
+      → getD (B .paged t f qs rs) i r ≡ outcomeOf (B .read t f (getD qs i q .parameter) (getD qs i q .sample))
+  pub beyond : (i : ℕ) (r : Outcome) → length qs ≤ i → getD (B .paged t f qs rs) i r ≡ getD rs i r
+
 -- a card's frame: 02's "Find the first bit position at which a whole frame fits and every record identifier agrees, and hand out
 -- that frame's words, equal to the stream's bits", "words beyond the frame stay"
 pub record FrameHanded (c : Content) (y : List ℕ) (from : ℕ) (w : List ℕ) (r : Carded) (o : List ℕ) : Type 0 where
@@ -181,6 +200,7 @@ pub record Two (B : Calls) : Type 0 where
       → B .read t f p s ≡ answerIn (view t) f p s
   pub placed : (t f : List ℕ) (p s v : ℕ) → Fitting B t f → HasSample (view t) p s → overlapped (sampleOf (view t) p s) ≡ false
       → v < 2 ^ width (componentsOf (view t) p s) → ValuePlaced B t f p s v
+  pub pages : (t f : List ℕ) (qs : List Request) (rs : List Outcome) → firstBroken (pageRules qs rs) ≡ 0 → PageRead B t f qs rs
   pub found : (t y : List ℕ) (from : ℕ) (w : List ℕ) → firstBroken (cardRules t y from w) ≡ 0
       → FrameHanded (view t) y from w (B .cardFrom t y from w) (B .handedFrom t y from w)
   pub first-of-all : (t y w : List ℕ) → FromTheFirst B t y w

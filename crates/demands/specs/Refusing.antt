@@ -16,6 +16,8 @@ use Rattle.model.specs.Accepts.{accepts}
 use Rattle.model.specs.View.{view}
 use Rattle.framing.specs.Wanted.{hasParameter, hasSample}
 use Rattle.framing.specs.Comparing.{differsIn}
+use Rattle.framing.specs.declared.page.Request.{Request}
+use Rattle.framing.specs.declared.page.Outcome.{Outcome}
 use Rattle.carding.specs.Search.{soughtAt}
 use Rattle.carding.specs.Answer.{longestStream, marginsKnown}
 
@@ -86,6 +88,14 @@ someFrame c y from = any (8 * length y + 1) (soughtAt c y from)
 abbrev pub enoughWords : Content → List ℕ → Bool
 enoughWords c w = leb (frameWords c) (length w)
 
+-- 29, "more than 256" requests
+abbrev pub fewRequests : List Request → Bool
+fewRequests qs = leb (length qs) 256
+
+-- 28, "a result list that is too short"
+abbrev pub enoughResults : List Request → List Outcome → Bool
+enoughResults qs rs = leb (length qs) (length rs)
+
 -- ---- 01's order
 
 -- 18, "bytes aren't a table"
@@ -144,3 +154,7 @@ cardRules t y from w =
 -- how many bits a frame has is told of a table by which a card can be read
 abbrev pub bitsRules : List ℕ → List Rule
 bitsRules t = rule 18 (accepts t) ∷ rule 26 (tellsMargins t) ∷ []
+
+-- 02: "29 for more than 256, then 28 for a result list that is too short; both .. come before all others"
+abbrev pub pageRules : List Request → List Outcome → List Rule
+pageRules qs rs = rule 29 (fewRequests qs) ∷ rule 28 (enoughResults qs rs) ∷ []

@@ -7,13 +7,17 @@ use Rattle.gather.specs.Ruling.{judgeOf}
 use Rattle.maker.specs.Made.{madeOf, leftOf}
 use Rattle.table.specs.Answers.{checkOf, checkNumber, askedNumber, askedMnemonic}
 use Rattle.framing.specs.Reading.{readOf}
+use Rattle.framing.specs.Outcomes.{outcomeOf}
+use Rattle.framing.specs.Paging.{pagedOf, resultsOf}
 use Rattle.framing.specs.Placing.{placeOf, placedOf, placeNumber}
 use Rattle.framing.specs.Comparing.{comparedOf}
+use Rattle.framing.specs.declared.page.Request.{Request}
+use Rattle.framing.specs.declared.page.Outcome.{Outcome}
+use Rattle.framing.specs.declared.page.Paged.{Paged}
 use Rattle.carding.specs.Answer.{cardedOf, handedOf, bitsOfFrame}
-use Rattle.ffi.specs.Structs.{madeOut, nameOut, sampleOut, comparedOut, cardedOut}
+use Rattle.ffi.specs.Structs.{madeOut, nameOut, comparedOut, cardedOut}
 use Rattle.ffi.specs.declared.sheets.OrbMade.{OrbMade}
 use Rattle.ffi.specs.declared.tables.OrbName.{OrbName}
-use Rattle.ffi.specs.declared.frames.OrbSample.{OrbSample}
 use Rattle.ffi.specs.declared.frames.OrbCompared.{OrbCompared}
 use Rattle.ffi.specs.declared.cards.OrbCarded.{OrbCarded}
 
@@ -32,8 +36,8 @@ abbrev pub NamesByOut : List ℕ → List ℕ → OrbName → Type 0
 NamesByOut table mnemonic r = r ≡ nameOut table (askedMnemonic table mnemonic)
 
 -- table, words, parameter, sample
-abbrev pub ReadsOut : List ℕ → List ℕ → ℕ → ℕ → OrbSample → Type 0
-ReadsOut table words parameter sample r = r ≡ sampleOut (readOf table words parameter sample)
+abbrev pub ReadsOut : List ℕ → List ℕ → ℕ → ℕ → Outcome → Type 0
+ReadsOut table words parameter sample r = r ≡ outcomeOf (readOf table words parameter sample)
 
 -- value; answer, the words afterwards
 abbrev pub PlacesOut : List ℕ → List ℕ → ℕ → ℕ → ℕ → ℕ → List ℕ → Type 0
@@ -43,6 +47,11 @@ PlacesOut table words parameter sample value n after =
 
 abbrev pub ComparesOut : List ℕ → List ℕ → OrbCompared → Type 0
 ComparesOut table words r = r ≡ comparedOut (comparedOf table words)
+
+-- table, words, requests, lent results; answer, the results afterwards
+abbrev pub PagesOut : List ℕ → List ℕ → List Request → List Outcome → Paged → List Outcome → Type 0
+PagesOut table words requests results r after =
+    (r ≡ pagedOf (length requests) (length results)) × (after ≡ resultsOf table words requests results)
 
 -- table, stream, the bit to begin at, lent words; answer, the words afterwards
 abbrev pub CardsOut : List ℕ → List ℕ → ℕ → List ℕ → OrbCarded → List ℕ → Type 0

@@ -1,7 +1,7 @@
--- The structs that C sees: one definition each, of what the bench answers. The number is 01's or 02's.
+-- The structs that C sees: one definition each, of what the bench answers. The number is 01's or 02's. A read's and a page's are the
+-- bench's own (framing: Outcomes, Paging).
 use Prim.Native.Nat.{ℕ}
 use mathlib.Core.List.{List}
-use lib.IntN.{pos}
 use lib.ListN.{length}
 use Rattle.maker.specs.Made.{madeNumber}
 use Rattle.maker.specs.declared.make.Made.{Made}
@@ -10,10 +10,7 @@ use Rattle.table.specs.Answers.{askedRefusal, nameAnswered, placeAnswered}
 use Rattle.table.specs.Reasons.{reasonNumber}
 use Rattle.table.specs.declared.naming.Asked.{Asked}
 use Rattle.table.specs.declared.reason.Reason.{Reason}
-use Rattle.framing.specs.Reading.{readNumber}
 use Rattle.framing.specs.Comparing.{comparedNumber}
-use Rattle.framing.specs.declared.read.Reading.{Reading}
-use Rattle.framing.specs.declared.read.Reading.the-variants as reading
 use Rattle.framing.specs.declared.compare.Compared.{Compared}
 use Rattle.framing.specs.declared.compare.Compared.the-variants as compared
 use Rattle.carding.specs.Answer.{cardedNumber}
@@ -21,7 +18,6 @@ use Rattle.carding.specs.declared.carded.Carded.{Carded}
 use Rattle.carding.specs.declared.carded.Carded.the-variants.{Found, Refused}
 use Rattle.ffi.specs.declared.sheets.OrbMade.{OrbMade}
 use Rattle.ffi.specs.declared.tables.OrbName.{OrbName}
-use Rattle.ffi.specs.declared.frames.OrbSample.{OrbSample}
 use Rattle.ffi.specs.declared.frames.OrbCompared.{OrbCompared}
 use Rattle.ffi.specs.declared.cards.OrbCarded.{OrbCarded}
 
@@ -45,15 +41,6 @@ abbrev pub noNameOut : Reason → OrbName
 noNameOut r = record { number = reasonNumber r; start = 0; length = 0 }
 
 -- ---- a frame
-
--- kind 1 is a sample, 2 one whose copies differ; where refused, all is 0 but the number
-unfoldable pub sampleOut : Reading → OrbSample
-sampleOut (reading.Sample raw width value) =
-    record { number = readNumber (reading.Sample raw width value); kind = 1; width = width; raw = raw; value = value }
-sampleOut (reading.OverlapDiffers raw width value) =
-    record { number = readNumber (reading.OverlapDiffers raw width value); kind = 2; width = width; raw = raw; value = value }
-sampleOut (reading.Refused w) =
-    record { number = readNumber (reading.Refused w); kind = 0; width = 0; raw = 0; value = pos 0 }
 
 -- the subframe that differs, else 0
 unfoldable pub differing : Compared → ℕ

@@ -22,7 +22,7 @@ use Rattle.model.proofs.Statements.{view-new}
 use Rattle.model.proofs.WallCase.{wall-lawful, lapped}
 use Rattle.model.proofs.Statements.{wall-accepted}
 use Rattle.framing.specs.Fitting.{fitOf}
-use Rattle.framing.specs.Wanted.{fitted, wantedIn, wantedOf}
+use Rattle.framing.specs.Wanted.{fitted, wantedBy, wantedIn, wantedOf}
 use Rattle.table.specs.Reasons.{reasonNumber}
 use Rattle.framing.specs.Reading.{rawOf, widthIs, valueOf, copiesAgree, sampleRead, readFor, readOf, readNumber}
 use Rattle.framing.specs.Placing.{lapsIn, placeFor, placeOf, placedFor, placedOf, placeNumber}
@@ -142,6 +142,6 @@ unfolding comparedOf
 compare-wall f = rw (wall-accepted, said)
 
 pub examples : AllHold cases
-unfolding bitAt field put signed partOf join width placeOne place sum before position wordCounts whole piece pieces widthOf overlapped placeIn holdsAt holds frameWords wordsOk fitOf fitted wantedIn reasonNumber rawOf widthIs valueOf copiesAgree sampleRead readFor readNumber lapsIn placeFor placedFor placeNumber differsAt differsIn comparedIn fittedCompared comparedNumber
+unfolding bitAt field put signed partOf join width placeOne place sum before position wordCounts whole piece pieces widthOf overlapped placeIn holdsAt holds frameWords wordsOk fitOf fitted wantedBy reasonNumber rawOf widthIs valueOf copiesAgree sampleRead readFor readNumber lapsIn placeFor placedFor placeNumber differsAt differsIn comparedIn fittedCompared comparedNumber
 examples =
     (read-wall _ _ _, (read-wall _ _ _, (read-wall _ _ _, (unread-wall _ _ _, (unread-wall _ _ _, (unread-wall _ _ _, (unread-wall _ _ _, (unread-wall _ _ _, ((place-wall _ _ _ _, placed-wall _ _ _ _), ((unplaced-wall _ _ _ _, placed-wall _ _ _ _), (compare-wall _, ((ap comparedNumber (compare-wall _), compare-wall _), (refl, (refl, (refl, (refl, ((refl, refl), ((refl, refl), ((refl, refl), tt)))))))))))))))))))

@@ -9,7 +9,7 @@ ghost use Rattle.lay.specs.Bytes.{put};
 ghost use Rattle.listed.specs.Decimals.{decimalText, valueText};
 
 // Minus one minus v: not negative where v is.
-fn turned(v: i64) -> i64
+pub fn turned(v: i64) -> i64
     requires { ⌜ v <ℤ pos 0 ⌝ }
     ensures { λ r. ⌜ (pos 0 ≤ℤ r) × (r ≡ negsuc 0 -ℤ v) ⌝ }
 {
@@ -17,7 +17,7 @@ fn turned(v: i64) -> i64
 }
 
 // A number that is not negative, unsigned.
-fn natural(v: i64) -> u64
+pub fn natural(v: i64) -> u64
     requires { ⌜ pos 0 ≤ℤ v ⌝ }
     ensures { λ r. ⌜ pos r ≡ v ⌝ }
     ensures { λ r. ⌜ r ≤ 2 ^ 63 ⌝ }

@@ -21,17 +21,18 @@ use Rattle.model.specs.Items as item
 use Rattle.model.specs.Items.{subframePart, parameterPart, samplePart, componentPart, parts, partsOfAll, entryItems}
 use Rattle.model.specs.Forms.{known, layoutOf, limitsOf, formIn, layoutIn, limitsIn}
 use Rattle.model.specs.Sound.{most, Sound}
-use Rattle.model.specs.Stored.{headerIn, countIn, partStart, textPart}
-use Rattle.model.specs.Facts.{Formed}
+use Rattle.model.specs.Stored.{headerIn, countIn, offsetIn, partStart, textPart}
+use Rattle.model.specs.Facts.{Formed, Sized, Head}
 use Rattle.model.proofs.Rows.{each-part, known-sound}
 use Rattle.model.proofs.Laying.{formed-sound}
-use Rattle.stored.specs.Entry.{CountsOf, countsBy, Few, StartsBy, StartsOf, OpenedOf}
+use Rattle.stored.specs.Entry.{HeaderOf, CountsOf, countsBy, Few, StartsBy, StartsOf, OpenedOf}
 use Rattle.stored.specs.Shapes.{subframeShape, parameterShape, sampleShape, componentShape, boundsOf, limitsBy}
 use Rattle.stored.specs.declared.forms.Bounds.{Bounds}
 use Rattle.stored.specs.declared.forms.SubframeShape.{SubframeShape}
 use Rattle.stored.specs.declared.forms.ParameterShape.{ParameterShape}
 use Rattle.stored.specs.declared.forms.SampleShape.{SampleShape}
 use Rattle.stored.specs.declared.forms.ComponentShape.{ComponentShape}
+use Rattle.stored.specs.declared.items.Header.{Header}
 use Rattle.stored.specs.declared.items.Counts.{Counts}
 use Rattle.stored.specs.declared.items.Starts.{Starts}
 use Rattle.stored.specs.declared.items.Opened.{Opened}
@@ -155,6 +156,28 @@ module _ {b : List ℕ} {n : Counts} (q : CountsOf b n) where
             ∙ ap (λ (L : Layout). partStart b (manyParts L)) l;
         text-below = s .text-below;
       }
+
+text-small : {b : List ℕ} → Sized b → textPart b < 4294967296
+unfolding textPart
+text-small {b} z =
+    let s = formed-sound b (z .formed) in
+    let m = start-most (layoutIn b) (countIn b) (most (limitsIn b)) (manyParts (layoutIn b)) (λ q l. z .few q (omega (arith, s .many))) in
+    omega (arith, s .small)
+
+-- in bytes whose head has passed they begin where the header says
+pub starts-told : {b : List ℕ} {h : Header} → Head b → HeaderOf b h → StartsOf b (record { subframes = h .subframes; parameters = h .parameters; samples = h .samples; components = h .components; text = h .text })
+starts-told {b} d e =
+    let go : (p : ℕ) → p < parts → offsetIn b p ≡ partStart b p = λ p l. d .offsets .each p l ∙ told-start (d .sized .formed) p (omega arith) in
+    let small = text-small (d .sized) in
+    let text-is = e .text-is ∙ d .offsets .text in
+    record {
+      subframes-is = e .subframes-is ∙ go subframePart (omega arith);
+      parameters-is = e .parameters-is ∙ go parameterPart (omega arith);
+      samples-is = e .samples-is ∙ go samplePart (omega arith);
+      components-is = e .components-is ∙ go componentPart (omega arith);
+      text-is = text-is;
+      text-below = omega (arith, text-is, small);
+    }
 
 -- ---- an entry
 

@@ -5,6 +5,7 @@ use crate::frames::compare_case;
 use crate::frames::place_case;
 use crate::frames::read_case;
 use crate::make::make_case;
+use crate::pages::page_case;
 use crate::say::ended;
 use crate::tables::check_case;
 use crate::tables::mnemonic_case;
@@ -33,6 +34,7 @@ fn case(s: &[u8], c: Cursor, words: &mut [u16], table: &mut [u8]) -> Cursor
         6 => name_case(s, first),
         7 => mnemonic_case(s, first),
         8 => card_case(8, s, first, words),
+        9 => page_case(s, first, words),
         10 => card_case(10, s, first, words),
         _ => first.cut_off(),
     }

@@ -105,6 +105,16 @@ impl Cursor {
         next.run(s, length.value as usize)
     }
 
+    // A count and eight bytes for each pair of numbers.
+    pub fn pairs(self, s: &[u8]) -> Part
+        requires { ⌜ Inside (now s) self ⌝ }
+        ensures { λ r. ⌜ Onward (now (s .entry)) self (r .next) × Bounds (now (s .entry)) (r .start) (r .end) ⌝ }
+    {
+        let count = self.four(s);
+        let next = count.next;
+        next.run(s, 8 * count.value as usize)
+    }
+
     // A count, at most 40,000, and two bytes for each word.
     pub fn words(self, s: &[u8]) -> Part
         requires { ⌜ Inside (now s) self ⌝ }

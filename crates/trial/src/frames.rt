@@ -18,15 +18,15 @@ ghost use lib.ListN.{length};
 ghost use Rattle.trial.specs.Onward.{Inside, Onward, Bounds};
 
 // A table from start to end, and a frame's words, two bytes each.
-struct Lent {
-    start: usize,
-    end: usize,
-    from: usize,
-    to: usize,
-    next: Cursor,
+pub struct Lent {
+    pub start: usize,
+    pub end: usize,
+    pub from: usize,
+    pub to: usize,
+    pub next: Cursor,
 }
 
-fn lent_at(s: &[u8], c: Cursor) -> Lent
+pub fn lent_at(s: &[u8], c: Cursor) -> Lent
     requires { ⌜ Inside (now s) c ⌝ }
     ensures { λ r. ⌜ Onward (now (s .entry)) c (r .next) × Bounds (now (s .entry)) (r .start) (r .end) × Bounds (now (s .entry)) (r .from) (r .to) × (r .to ≤ r .from + 80000) ⌝ }
 {
@@ -43,7 +43,7 @@ fn lent_at(s: &[u8], c: Cursor) -> Lent
 }
 
 // The words that the bytes spell, at the front; answers how many.
-fn filled(bytes: &[u8], words: &mut [u16]) -> usize
+pub fn filled(bytes: &[u8], words: &mut [u16]) -> usize
     requires { ⌜ length (now bytes) ≤ 2 * length (now words) ⌝ }
     ensures { λ r. ⌜ r ≤ length (now (words .entry)) ⌝ }
 {
@@ -51,7 +51,7 @@ fn filled(bytes: &[u8], words: &mut [u16]) -> usize
     bytes.len() / 2
 }
 
-fn first(words: &[u16], n: usize) -> &[u16]
+pub fn first(words: &[u16], n: usize) -> &[u16]
     requires { ⌜ n ≤ length (now words) ⌝ }
 {
     &words[..n]

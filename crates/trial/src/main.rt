@@ -5,6 +5,7 @@ mod cursor;
 mod frames;
 mod load;
 mod make;
+mod pages;
 mod say;
 mod sum;
 mod tables;

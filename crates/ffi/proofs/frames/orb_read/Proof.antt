@@ -1,6 +1,6 @@
 -- What the bench answers, as the struct.
 use mathlib.Core.Path.{ap, _∙_}
-use Rattle.ffi.specs.Structs.{sampleOut}
+use Rattle.framing.specs.Outcomes.{outcomeOf}
 use borrow.Author.Needs.{needs}
 use Rattle.ffi.proofs.frames.orb_read.Statement.{statement}
 use Rattle.ffi.proofs.frames.orb_read.Tie as tie
@@ -8,11 +8,11 @@ use Rattle.ffi.proofs.frames.orb_read.Tie as tie
 read-requires : tie.Need-read-requires
 read-requires c κs = search needs
 
-sample-out-requires : tie.Need-sample-out-requires
-sample-out-requires c κs = search needs
+outcome-of-requires : tie.Need-outcome-of-requires
+outcome-of-requires c κs = search needs
 
 returns : tie.Need-returns
-returns c = c .sample-out .ensures ∙ ap sampleOut (c .before .read .ensures)
+returns c = c .outcome-of .ensures ∙ ap outcomeOf (c .before .read .ensures)
 
 pub orb-read-spec : {M : Type 1} → statement M
-orb-read-spec = tie.close (tie.spec read-requires sample-out-requires returns)
+orb-read-spec = tie.close (tie.spec read-requires outcome-of-requires returns)
