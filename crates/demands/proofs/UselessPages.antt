@@ -5,6 +5,7 @@ use native.Mathlib.Omega.{arith}
 use mathlib.Core.Bool.{Bool, true, false, cond}
 use mathlib.Core.Path.{_≡_, refl, sym, ap, _∙_}
 use mathlib.Core.List.{List, [], _∷_}
+use lib.Dec.{leb}
 use lib.IntN.{pos}
 use lib.ListN.{length, getD, replicate}
 use Rattle.model.specs.Accepts.{accepts}
@@ -58,6 +59,10 @@ one-pass : firstBroken (pageRules (sync ∷ []) two-old) ≡ 0
 unfolding firstBroken
 one-pass = refl
 
+few-told : firstBroken (pageRules two-asked (old ∷ [])) ≡ 28
+unfolding firstBroken
+few-told = refl
+
 full-pass : firstBroken (pageRules (replicate 256 sync) (replicate 256 old)) ≡ 0
 unfolding firstBroken
 full-pass = refl
@@ -110,3 +115,21 @@ module _ (B : Calls) (D : Demands B) where
   pub not-cleared : ((t f : List ℕ) (qs : List Request) (rs : List Outcome) (i : ℕ) (r : Outcome) → firstBroken (pageRules qs rs) ≡ 0 → length qs ≤ i → i < length rs
       → getD (B .paged t f qs rs) i r .number ≡ 0) → ⊥
   not-cleared u = omega (arith, ap number-of (sym (asked (sync ∷ []) two-old one-pass .beyond 1 old (omega arith))) ∙ u (wallTable B) words (sync ∷ []) two-old 1 old one-pass (omega arith) (omega arith))
+
+  -- the page itself refused for a bad table, frame or number: its own number is 0, 28 or 29, and 18 stands in the results
+  pub own-number : (t f : List ℕ) (qs : List Request) (rs : List Outcome) → B .page t f qs rs .number ≡ 18 → ⊥
+  unfolding firstBroken
+  own-number t f qs rs e = go (leb (length qs) 256) (leb (length qs) (length rs)) (sym (D .one .pages t f qs rs) ∙ e)
+    where
+      go : (a b : Bool) → _≡_ {A = ℕ} (cond a (cond b 0 28) 29) 18 → ⊥
+      go true true z = omega (arith, z)
+      go true false z = omega (arith, z)
+      go false b z = omega (arith, z)
+
+  -- a refusal that writes: too few results are filled as far as they go
+  pub not-filled : ((t f : List ℕ) (qs : List Request) (rs : List Outcome) (i : ℕ) (q : Request) (r : Outcome) → length rs < length qs → i < length rs
+      → getD (B .paged t f qs rs) i r ≡ outcomeOf (B .read t f (getD qs i q .parameter) (getD qs i q .sample))) → ⊥
+  not-filled u =
+      let e = u (wallTable B) words two-asked (old ∷ []) 0 nobody old (omega arith) (omega arith) in
+      let k = D .one .page-unchanged (wallTable B) words two-asked (old ∷ []) (λ z. omega (arith, sym few-told ∙ z)) .results in
+      omega (arith, ap (λ (ys : List Outcome). raw-of (getD ys 0 old)) (sym k) ∙ ap raw-of e, sync-outcome)

@@ -8,13 +8,13 @@ use Rattle.maker.specs.Made.{madeOf, leftOf}
 use Rattle.table.specs.Answers.{checkOf, checkNumber, askedNumber, askedMnemonic}
 use Rattle.framing.specs.Reading.{readOf}
 use Rattle.framing.specs.Outcomes.{outcomeOf}
-use Rattle.framing.specs.Paging.{pagedOf, resultsOf}
 use Rattle.framing.specs.Placing.{placeOf, placedOf, placeNumber}
 use Rattle.framing.specs.Comparing.{comparedOf}
 use Rattle.framing.specs.declared.page.Request.{Request}
 use Rattle.framing.specs.declared.page.Outcome.{Outcome}
 use Rattle.framing.specs.declared.page.Paged.{Paged}
 use Rattle.carding.specs.Answer.{cardedOf, handedOf, bitsOfFrame}
+use Rattle.bench.specs.Promises.{Pages}
 use Rattle.ffi.specs.Structs.{madeOut, nameOut, comparedOut, cardedOut}
 use Rattle.ffi.specs.declared.sheets.OrbMade.{OrbMade}
 use Rattle.ffi.specs.declared.tables.OrbName.{OrbName}
@@ -48,10 +48,9 @@ PlacesOut table words parameter sample value n after =
 abbrev pub ComparesOut : List ℕ → List ℕ → OrbCompared → Type 0
 ComparesOut table words r = r ≡ comparedOut (comparedOf table words)
 
--- table, words, requests, lent results; answer, the results afterwards
+-- the bench's own, since its structs are C's: table, words, requests, lent results; answer, the results afterwards
 abbrev pub PagesOut : List ℕ → List ℕ → List Request → List Outcome → Paged → List Outcome → Type 0
-PagesOut table words requests results r after =
-    (r ≡ pagedOf (length requests) (length results)) × (after ≡ resultsOf table words requests results)
+PagesOut = Pages
 
 -- table, stream, the bit to begin at, lent words; answer, the words afterwards
 abbrev pub CardsOut : List ℕ → List ℕ → ℕ → List ℕ → OrbCarded → List ℕ → Type 0

@@ -17,7 +17,7 @@ use stored::layout::reopened;
 use table::check::opening;
 use table::reason::Reason;
 
-// Whether the bytes are a table, and the fit; of bytes that are none it is not asked for.
+// What is found once for all reads of a page: whether the bytes are a table, and the fit; of bytes that are none it is not asked for.
 pub struct Page {
     pub table: bool,
     pub fit: Fit,

@@ -51,12 +51,12 @@ abbrev answer : ℕ → ℕ → Paged
 answer n k = record { number = n; count = k }
 
 module _ (t w : List ℕ) (qs : List Request) (rs : List Outcome) where
-  pub record Is (p : Paged) (left : List Outcome) : Type 0 where
+  pub record PageIs (p : Paged) (left : List Outcome) : Type 0 where
     pub answered : p ≡ pagedOf (length qs) (length rs)
     pub results : left ≡ resultsOf t w qs rs
 
   -- "Up to 256 requests": each is read
-  pub page-all : length qs ≤ 256 → length qs ≤ length rs → Is (answer 0 (length qs)) (mix (outcomeAt t w) qs rs (length qs))
+  pub page-all : length qs ≤ 256 → length qs ≤ length rs → PageIs (answer 0 (length qs)) (mix (outcomeAt t w) qs rs (length qs))
   unfolding pagedOf resultsOf
   page-all f g =
       record {
@@ -65,12 +65,12 @@ module _ (t w : List ℕ) (qs : List Request) (rs : List Outcome) where
       }
 
   -- "29 for more than 256"
-  pub page-many : 256 < length qs → Is (answer 29 0) rs
+  pub page-many : 256 < length qs → PageIs (answer 29 0) rs
   unfolding pagedOf resultsOf
   page-many l = record { answered = rw (lt-leb (length qs) 256 l); results = rw (lt-leb (length qs) 256 l) }
 
   -- "then 28 for a result list that is too short"
-  pub page-few : length qs ≤ 256 → length rs < length qs → Is (answer 28 0) rs
+  pub page-few : length qs ≤ 256 → length rs < length qs → PageIs (answer 28 0) rs
   unfolding pagedOf resultsOf
   page-few f l =
       record {

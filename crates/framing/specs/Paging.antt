@@ -14,13 +14,13 @@ use Rattle.framing.specs.declared.page.Paged.{Paged}
 abbrev pub mostRequests : ℕ
 mostRequests = 256
 
--- "29 for more than 256, then 28 for a result list that is too short": one of three, at n requests and m results
-abbrev pub judged : {X : Type 0} → ℕ → ℕ → X → X → X → X
-judged n m many few passed = cond (leb n mostRequests) (cond (leb n m) passed few) many
+-- "29 for more than 256, then 28 for a result list that is too short": the lengths of the two lists, n and m, decide
+abbrev pub byLengths : {X : Type 0} → ℕ → ℕ → X → X → X → X
+byLengths n m many few passed = cond (leb n mostRequests) (cond (leb n m) passed few) many
 
 -- the number, and how many results are written
 unfoldable pub pagedOf : ℕ → ℕ → Paged
-pagedOf n m = record { number = judged n m 29 28 0; count = judged n m 0 0 n }
+pagedOf n m = record { number = byLengths n m 29 28 0; count = byLengths n m 0 0 n }
 
 -- "Each result equals what the single read answers, its refusal included"
 abbrev pub outcomeAt : List ℕ → List ℕ → Request → Outcome
@@ -28,4 +28,4 @@ outcomeAt t w q = outcomeOf (readOf t w (q .parameter) (q .sample))
 
 -- the results afterwards: "both write nothing", "results beyond the requests stay"
 unfoldable pub resultsOf : List ℕ → List ℕ → List Request → List Outcome → List Outcome
-resultsOf t w qs rs = judged (length qs) (length rs) rs rs (map (outcomeAt t w) qs ++ drop (length qs) rs)
+resultsOf t w qs rs = byLengths (length qs) (length rs) rs rs (map (outcomeAt t w) qs ++ drop (length qs) rs)
