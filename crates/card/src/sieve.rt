@@ -20,7 +20,7 @@ use stream::bits_at;
 pub const ROWS: usize = 64;
 
 // Where bits stand, counted from the frame's first bit; how many; and the number that they must be: the first count.
-#[derive(Drop)]
+#[derive(Clone, Copy)]
 pub struct Sieve {
     pub ats: [usize; ROWS],
     pub widths: [u32; ROWS],

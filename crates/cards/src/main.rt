@@ -1,4 +1,5 @@
 // The listing of a quick access card: sheet.frcs and card.bin in the current folder.
+#![tactic(auto)]
 mod load;
 mod say;
 mod show;

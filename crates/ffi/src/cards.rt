@@ -8,7 +8,7 @@ use carding::carded::Carded;
 
 // The number is 0, `position` the bits before the frame and `count` its words; both are 0 where the card is refused.
 #[repr(C)]
-#[derive(Drop)]
+#[derive(Clone, Copy)]
 pub struct OrbCarded {
     pub number: u32,
     pub position: u32,

@@ -11,7 +11,7 @@ use framing::page::Outcome;
 
 // The subframe stands beside 24, and is 0 elsewhere.
 #[repr(C)]
-#[derive(Drop)]
+#[derive(Clone, Copy)]
 pub struct OrbCompared {
     pub number: u32,
     pub subframe: u32,

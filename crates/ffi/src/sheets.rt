@@ -9,7 +9,7 @@ use maker::make::Made;
 
 // The number is 0 and `at` the table's length, or `at` is the line where the sheet is refused.
 #[repr(C)]
-#[derive(Drop)]
+#[derive(Clone, Copy)]
 pub struct OrbMade {
     pub number: u32,
     pub at: u32,

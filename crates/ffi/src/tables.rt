@@ -13,7 +13,7 @@ use table::reason::{Reason, reason_number};
 
 // A name is a part of the table: where it starts, and how many bytes it has; all 0 but the number where refused.
 #[repr(C)]
-#[derive(Drop)]
+#[derive(Clone, Copy)]
 pub struct OrbName {
     pub number: u32,
     pub start: usize,

@@ -18,7 +18,7 @@ use table::check::opening;
 use table::reason::Reason;
 
 // What is found once for all reads of a page: whether the bytes are a table, and the fit; of bytes that are none it is not asked for.
-#[derive(Drop)]
+#[derive(Clone, Copy)]
 pub struct Page {
     pub table: bool,
     pub fit: Fit,

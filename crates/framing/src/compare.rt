@@ -1,7 +1,7 @@
 use table::reason::Reason;
 
 // What a comparison answers; the number of the lowest subframe whose identifier differs.
-#[derive(Drop)]
+#[derive(Clone, Copy)]
 pub enum Compared {
     Passes,
     Differs(usize),

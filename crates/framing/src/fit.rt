@@ -1,7 +1,7 @@
 use table::reason::Reason;
 
 // What a frame turns out to be.
-#[derive(Drop)]
+#[derive(Clone, Copy)]
 pub enum Fit {
     Fits,
     Refused(Reason),

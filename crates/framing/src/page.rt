@@ -6,7 +6,7 @@ pub const REQUESTS: usize = 256;
 
 // Both counted from 1.
 #[repr(C)]
-#[derive(Drop)]
+#[derive(Clone, Copy)]
 pub struct Request {
     pub parameter: u32,
     pub sample: u32,
@@ -14,7 +14,7 @@ pub struct Request {
 
 // A reading in numbers. The kind is 1 for a sample, 2 for one whose copies differ, and all is 0 but the number where it is refused.
 #[repr(C)]
-#[derive(Drop)]
+#[derive(Clone, Copy)]
 pub struct Outcome {
     pub number: u32,
     pub kind: u32,
@@ -25,7 +25,7 @@ pub struct Outcome {
 
 // How many results are written, 0 where the page is refused.
 #[repr(C)]
-#[derive(Drop)]
+#[derive(Clone, Copy)]
 pub struct Paged {
     pub number: u32,
     pub count: u32,

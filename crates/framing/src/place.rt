@@ -1,7 +1,7 @@
 use table::reason::Reason;
 
 // What a placing answers.
-#[derive(Drop)]
+#[derive(Clone, Copy)]
 pub enum Placed {
     Done,
     Refused(Reason),

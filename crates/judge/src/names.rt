@@ -94,14 +94,14 @@ pub fn names_judged(form: Form, sheet: &[u8], line: &[u8], texts: &[usize], p: u
 }
 
 // Where a text stands in the sheet.
-#[derive(Drop)]
+#[derive(Clone, Copy)]
 pub struct Place {
     pub start: usize,
     pub end: usize,
 }
 
 // Where the open parameter's texts stand.
-#[derive(Drop)]
+#[derive(Clone, Copy)]
 pub struct Places {
     pub name: Place,
     pub mnemonic: Place,

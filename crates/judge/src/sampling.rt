@@ -13,7 +13,7 @@ use text::refusal::{Judged, Refusal};
 
 // The open sample: the bits that its components give, the last one's overlap, the subframe of its first component, whether all lie
 // there. The first sample: its width, subframe and whether all lie there.
-#[derive(Drop)]
+#[derive(Clone, Copy)]
 pub struct Sampling {
     pub spots: Components,
     pub width: u64,

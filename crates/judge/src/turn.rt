@@ -17,7 +17,7 @@ use text::refusal::{Judged, Refusal, or_else};
 
 // What is known before a line: what is due, the counts, the open sample, where the open parameter's texts stand, and how many
 // parameters have begun.
-#[derive(Drop)]
+#[derive(Clone, Copy)]
 pub struct State {
     pub due: Due,
     pub counts: Tally,
@@ -27,7 +27,7 @@ pub struct State {
 }
 
 // A line that passes, by its form and bounds, with the cursor past it; or what it is refused for.
-#[derive(Drop)]
+#[derive(Clone, Copy)]
 pub enum Turned {
     Passed {
         form: Form,

@@ -23,7 +23,7 @@ const TEXTS: usize = 6 * ROWS;
 
 const NUMBERS: usize = 4 * ROWS;
 
-#[derive(Drop)]
+#[derive(Clone, Copy)]
 pub enum Verdict {
     Accepted(Tally),
     Refused { refusal: Refusal, line: u32 },

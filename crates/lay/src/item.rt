@@ -7,7 +7,7 @@ use super::put::{put_eight, put_four, put_one, put_two};
 use super::{eight_at, four_at, one_at, two_at};
 
 // Where an item stands in its entry, and in how many bytes; 0 where the form has no such item.
-#[derive(Drop)]
+#[derive(Clone, Copy)]
 pub struct Place {
     pub at: usize,
     pub wide: usize,

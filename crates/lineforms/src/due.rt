@@ -6,7 +6,7 @@ ghost use Rattle.lineforms.specs.Forms.{word_form, count_form, either_form, open
 use text::field::field_count;
 use text::keyword::{Keyword, keyword_of};
 
-#[derive(Drop)]
+#[derive(Clone, Copy)]
 pub enum Due {
     HeaderWord,
     HeaderLine,
@@ -27,7 +27,7 @@ pub enum Due {
     Nothing,
 }
 
-#[derive(Drop)]
+#[derive(Clone, Copy)]
 pub enum Form {
     Stray,
     Superframe,

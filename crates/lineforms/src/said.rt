@@ -13,7 +13,7 @@ use spell::truths::says_true;
 use text::field::field_of;
 
 // What a record pair declares.
-#[derive(Drop)]
+#[derive(Clone, Copy)]
 pub struct Pair {
     pub bits: u64,
     pub words: u64,
@@ -24,7 +24,7 @@ pub struct Pair {
 }
 
 // What a component line names.
-#[derive(Drop)]
+#[derive(Clone, Copy)]
 pub struct Part {
     pub subframe: u64,
     pub word: u64,

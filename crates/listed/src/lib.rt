@@ -1,4 +1,5 @@
 // The listing's texts.
+#![tactic(auto)]
 pub mod cards;
 pub mod listing;
 pub mod numbers;

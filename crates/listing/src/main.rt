@@ -1,4 +1,5 @@
 // The listing of sheet.frcs and frame.bin in the current folder, as 01's "The sheet on the wall" has it.
+#![tactic(auto)]
 mod load;
 mod say;
 mod show;

@@ -17,7 +17,7 @@ use stored::items::{Counts, Starts};
 
 // What a parameter's entry holds: its texts' lengths, its flags, where its text starts within the text part, its first
 // sample and how many it has, and its value as an identifier.
-#[derive(Drop)]
+#[derive(Clone, Copy)]
 pub struct Described {
     pub name: usize,
     pub mnemonic: usize,

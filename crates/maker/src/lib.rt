@@ -1,4 +1,5 @@
 // Making a location table from a sheet.
+#![tactic(auto)]
 pub mod copies;
 pub mod emit;
 pub mod entries;

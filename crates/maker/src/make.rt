@@ -14,7 +14,7 @@ use stored::items::{Counts, starts_of};
 use text::refusal::{Refusal, refusal_number};
 
 // The table's length, or why there is none and at which line; line 0 where no line is to be named.
-#[derive(Drop)]
+#[derive(Clone, Copy)]
 pub enum Made {
     Length(usize),
     Refused { refusal: Refusal, line: u32 },

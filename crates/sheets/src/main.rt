@@ -1,5 +1,6 @@
 // Judges the stored sheets, one line each: FILE: NUMBER at LINE, or FILE: made LENGTH. CHANGED follows where a lent byte
 // that must stay did not. docs/STORED-SHEETS.md says what the set is, and how a case is added.
+#![tactic(auto)]
 mod cases;
 mod compare;
 mod lent;

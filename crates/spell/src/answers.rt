@@ -4,27 +4,27 @@ ghost use Rattle.spell.specs.Answers.{number_judged, amount_of, truth_judged_of,
 
 use text::refusal::{Judged, Refusal};
 
-#[derive(Drop)]
+#[derive(Clone, Copy)]
 pub enum Number {
     Value(u64),
     Refused(Refusal),
 }
 
-#[derive(Drop)]
+#[derive(Clone, Copy)]
 pub enum Truth {
     Says(bool),
     Refused(Refusal),
 }
 
 // Bits from low to high, both counted from 1.
-#[derive(Drop)]
+#[derive(Clone, Copy)]
 pub enum Bits {
     Range { low: u64, high: u64 },
     Refused(Refusal),
 }
 
 // A fraction in lowest terms.
-#[derive(Drop)]
+#[derive(Clone, Copy)]
 pub enum Seconds {
     Value { numerator: u64, denominator: u64 },
     Refused(Refusal),

@@ -10,7 +10,7 @@ use text::part::{holds, past_first, up_to};
 use text::refusal::Refusal;
 
 // The numbers of `W N/D`: without W, whole is 0.
-#[derive(Drop)]
+#[derive(Clone, Copy)]
 pub struct Fraction {
     pub mixed: bool,
     pub whole: u64,

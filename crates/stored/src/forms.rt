@@ -21,7 +21,7 @@ pub const NEWEST: usize = 3;
 
 // The header's items but for the form: the total, flags, zero bytes, where the text begins; then of each part how many entries
 // it has, and where it begins.
-#[derive(Drop)]
+#[derive(Clone, Copy)]
 pub struct HeaderShape {
     pub size: usize,
     pub total: Place,
@@ -38,7 +38,7 @@ pub struct HeaderShape {
     pub component: Place,
 }
 
-#[derive(Drop)]
+#[derive(Clone, Copy)]
 pub struct SubframeShape {
     pub size: usize,
     pub bits: Place,
@@ -49,7 +49,7 @@ pub struct SubframeShape {
     pub denominator: Place,
 }
 
-#[derive(Drop)]
+#[derive(Clone, Copy)]
 pub struct ParameterShape {
     pub size: usize,
     pub name: Place,
@@ -62,7 +62,7 @@ pub struct ParameterShape {
     pub value: Place,
 }
 
-#[derive(Drop)]
+#[derive(Clone, Copy)]
 pub struct SampleShape {
     pub size: usize,
     pub time: Place,
@@ -70,7 +70,7 @@ pub struct SampleShape {
     pub count: Place,
 }
 
-#[derive(Drop)]
+#[derive(Clone, Copy)]
 pub struct ComponentShape {
     pub size: usize,
     pub subframe: Place,
@@ -82,7 +82,7 @@ pub struct ComponentShape {
 }
 
 // How much a form holds at most, and whether a margin may be unknown in it (blank).
-#[derive(Drop)]
+#[derive(Clone, Copy)]
 pub struct Bounds {
     pub subframes: usize,
     pub bits: usize,

@@ -2,7 +2,7 @@
 ghost use Rattle.std.specs.Prelude.{◌≡◌};
 ghost use Rattle.table.specs.Reasons.{reason_number};
 
-#[derive(Drop)]
+#[derive(Clone, Copy)]
 pub enum Reason {
     Overlapped,
     NoTable,

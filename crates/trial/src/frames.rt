@@ -12,7 +12,7 @@ use listed::listing::put_words;
 use text::part::between;
 
 // A table from start to end, and a frame's words, two bytes each.
-#[derive(Drop)]
+#[derive(Clone, Copy)]
 pub struct Lent {
     pub start: usize,
     pub end: usize,

@@ -1,4 +1,5 @@
 // Runs the cases of cases.bin in the current folder, a line each, so that any other reader of 01 can be held to the bench.
+#![tactic(auto)]
 mod cards;
 mod cases;
 mod cursor;

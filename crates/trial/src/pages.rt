@@ -17,14 +17,14 @@ pub const KEPT: usize = 257;
 pub const SLOTS: usize = 2000;
 
 // The first of a case's requests, and how many.
-#[derive(Drop)]
+#[derive(Clone, Copy)]
 pub struct Requests {
     pub list: [Request; KEPT],
     pub count: usize,
 }
 
 // What the call answers, and the results afterwards.
-#[derive(Drop)]
+#[derive(Clone, Copy)]
 pub struct Shown {
     pub paged: Paged,
     pub results: [Outcome; SLOTS],

@@ -32,7 +32,7 @@ pub fn of_words(s: &[u16]) -> u64 {
 }
 
 // The low half of 64 bits, and the high half.
-#[derive(Drop)]
+#[derive(Clone, Copy)]
 struct Halves {
     low: u64,
     high: u64,

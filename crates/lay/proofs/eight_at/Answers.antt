@@ -1,0 +1,10 @@
+-- Eight bytes: four and four.
+use native.Mathlib.Omega.{arith}
+use Rattle.lay.proofs.Bytes.{num_above}
+use Rattle.lay.proofs.eight_at.Goals as goal
+
+pub returns : goal.returns
+returns c =
+    let a = c.args in
+    let e = num_above 4 4 a.t.now a.o (omega arith) in
+    omega arith
