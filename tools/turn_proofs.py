@@ -148,6 +148,13 @@ class Turn:
             own = not callee and re.fullmatch(re.escape(step[0]) + r"-\d+", step[1]) and not re.search(r"_known|-known", step[0])
             if step[0] and not own:
                 self.steps.setdefault(plain(step[0]), step[1])
+        # what an arm of a match says, at the old step that said it
+        self.arms = []
+        for arm in of["arms"]:
+            for field, step, path in (arm[2] if arm else ()):
+                if path:
+                    self.arms.append((plain(step), ".".join(path), f".{arm[0]}.{field}"))
+        self.arms = sorted(set(self.arms), key=lambda a: -len(a[1]))
         self.callee = {}
         for name, parent, step, callee, extra in of["places"]:
             if callee:
@@ -178,6 +185,11 @@ class Turn:
         t = re.sub(r"simp length-map at (\S*\.well_formed\S*)", r"\1", t)
         t = re.sub(r"\btie\.((?:After|In|Then|Else|At|Start|Joined)[^\s()]*)", place, t)
 
+        # a label that the respelling took for a lemma's name
+        t = re.sub(r"(?<=[\w)])\.(" + WORD + r")_lem\b", lambda m: "." + m[1] if plain(m[1]) in self.steps else m[0], t)
+        for old, path, new in self.arms:
+            t = re.sub(r"\.(" + WORD + r")\." + re.escape(path) + r"(?![\w'-])", lambda m: new if plain(m[1]) == old else m[0], t)
+
         def step(m):
             old = plain(m[1])
             return "." + self.steps.get(old, m[1])
@@ -185,6 +197,9 @@ class Turn:
         t = re.sub(r"(?<=[\w)])\.(" + WORD + r")", lambda m: step(m), t)
         # what lies behind before
         t = re.sub(r"\b(c)((?:\.before)+)(?=\.(?!before))", r"\1", t)
+        # a test of `!x` says what it says of x
+        t = re.sub(r"\(not-(?:true|false) _ (c\.[^\s()]*)\)", r"\1", t)
+        t = re.sub(r"(?<![\w-])not-(?:true|false) _ (c\.[^\s()]*)", r"\1", t)
         own = self.known.get(self.path.split(".")[-1], ([], []))
         if len(own[0]) > 1:
             for path, n in spread(own[0]):
@@ -369,6 +384,8 @@ class Turn:
         new = self.need(old[1]) if old else None
         if new is None:
             new = self.need(re.match(r"tie\.Need-([^\s]+)", m[3])[1].replace("overflow-", "").replace("nonzero-", "").replace("slice-bounds", "slice"))
+        if new is None and re.search(r"=\s*search (rules|needs)\s*$", b):
+            return None
         if new is None:
             settled = [plain(s) for s in self.of["settled"]]
             said.append(f"no goal for {old_type}")
