@@ -109,6 +109,14 @@ def split_tuple(t):
 
 def as_record(body, names):
     """A nested pair written as a record of the clauses' names."""
+    new = by_parts(body, names)
+    if new == body and body.strip() not in ("search rules", "search needs", "tt") and "record {" not in body:
+        fields = "; ".join(f"{n} = p{path}" for n, (path, _) in zip(names, spread(names)))
+        return f" let p = ({body.strip()}) in record {{ {fields} }}"
+    return new
+
+
+def by_parts(body, names):
     m = re.match(r"((?:.*\bin\b)?\s*)(\(.*\))\s*$", body, re.S)
     if not m:
         return body
@@ -197,6 +205,9 @@ class Turn:
         t = re.sub(r"(?<=[\w)])\.(" + WORD + r")", lambda m: step(m), t)
         # what lies behind before
         t = re.sub(r"\b(c)((?:\.before)+)(?=\.(?!before))", r"\1", t)
+        t = re.sub(r"(\.(?:if|loop|walk|while)[^\s.()]*)\.taken\b", r"\1.true", t)
+        t = re.sub(r"(\.(?:if|loop|walk|while)[^\s.()]*)\.left\b", r"\1.false", t)
+        t = re.sub(r"\b([cs])((?:\.before)*)\.pre\b(?!-)", r"\1\2.requires", t)
         # a test of `!x` says what it says of x
         t = re.sub(r"\(not-(?:true|false) _ (c\.[^\s()]*)\)", r"\1", t)
         t = re.sub(r"(?<![\w-])not-(?:true|false) _ (c\.[^\s()]*)", r"\1", t)
@@ -204,6 +215,9 @@ class Turn:
         if len(own[0]) > 1:
             for path, n in spread(own[0]):
                 t = re.sub(r"\.requires" + re.escape(path) + r"(?![\d])", ".requires" + n, t)
+            for v in re.findall(r"\blet (\w+) = \w+(?:\.before)*\.requires in", t):
+                for path, n in spread(own[0]):
+                    t = re.sub(r"\b" + v + re.escape(path) + r"(?![\d])", v + n, t)
         for s, f in self.callee.items():
             ens = self.known.get(f, ([], []))[1]
             if len(ens) > 1:

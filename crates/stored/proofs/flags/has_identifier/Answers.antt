@@ -1,0 +1,8 @@
+-- The bits above the lowest are 1.
+use mathlib.Core.Path.{ap}
+use Prim.Native.Nat.{ℕ}
+use lib.Dec.{eqb}
+use Rattle.stored.proofs.flags.has_identifier.Goals as goal
+
+pub returns : goal.returns
+returns c = ap (λ (f : ℕ). eqb f 1) c.bits_above.ensures
