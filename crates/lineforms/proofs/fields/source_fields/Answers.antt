@@ -1,0 +1,10 @@
+use mathlib.Core.Path.{◌≡◌, ◌∙◌}
+use Rattle.lineforms.specs.LineFields.{source_fields}
+use Rattle.lineforms.proofs.Chains.{chained, chained_first}
+use Rattle.lineforms.proofs.fields.source_fields.Goals as goal
+
+pub returns : goal.returns
+returns c =
+    let l = source_fields c.args.line.now in
+    let e : c.or_else.result ≡ chained l = simp (c.or_else.ensures, c.text_at-2.ensures, c.or_else-b.ensures, c.text_at.ensures, c.text_at-a.ensures) in
+    e ∙ chained_first l

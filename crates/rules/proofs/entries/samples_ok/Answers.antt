@@ -1,0 +1,93 @@
+use mathlib.Core.Path.{◌≡◌, sym, ap, ◌∙◌}
+use mathlib.Core.Bool.{true}
+use mathlib.Core.Logic.{⊎_elim}
+use mathlib.Core.List.{List}
+use Prim.Native.Nat.{ℕ, ◌+◌, ◌-◌}
+use native.Mathlib.Omega.{arith}
+use borrow.Author.Count.{below_more}
+use Rattle.lay.proofs.Tests.{refuse}
+use Rattle.model.specs.Stored.{first_sample_in}
+use Rattle.model.proofs.Laying.{sample_here}
+use Rattle.rules.specs.Ruled.{lawful_width}
+use Rattle.rules.proofs.Parameters.{width_at, width_of_sample, sample_width, sample_some, samples_law, samples_made}
+use Rattle.rules.proofs.entries.samples_ok.Invariants.{Fine}
+use Rattle.rules.proofs.entries.samples_ok.Goals.{Joined-j-eq0}
+use Rattle.rules.proofs.entries.samples_ok.Goals as goal
+
+-- the width that was read is sample j's
+read : (b : List ℕ) (i first j w : ℕ) → first ≡ first_sample_in b i → w ≡ lawful_width b (first + j) → w ≡ width_of_sample b i j
+read b i first j w e h = h ∙ ap (λ (f : ℕ). lawful_width b (f + j)) e
+
+pub parameter_at-e-requires : goal.parameter_at-e-requires
+parameter_at-e-requires c = record { opened_of = c.requires.opened_of; i_bound = c.requires.parameter_here.here }
+
+pub loop-j-init : goal.loop-j-init
+loop-j-init c =
+    let e = c.parameter_at-e.ensures in
+    record { firsts = e.first_is; counted = e.count_is; within = omega arith; wide = λ l. absurd (omega arith); done = λ k l. absurd (omega arith) }
+
+pub overflow_add-first : goal.overflow_add-first
+overflow_add-first c = omega (arith, c.parameter_at-e.ensures, c.loop-j-test.true)
+
+pub lawful_width-w-requires : goal.lawful_width-w-requires
+lawful_width-w-requires c =
+    let v = c.loop-j.invariant in
+    let h = c.requires.parameter_here.samples in
+    record { opened_of = c.requires.opened_of; sample_here = sample_here c.args.t.now c.requires.rows _ (omega (arith, v.firsts, v.counted, c.loop-j-test.true, h)); subframes_law = c.requires.subframes_law }
+
+pub returns-then-w-eq0 : goal.returns-then-w-eq0
+returns-then-w-eq0 c =
+    let b = c.args.t.now in
+    let i = c.args.i in
+    let v = c.loop-j.invariant in
+    let e = read b i c.parameter_at-e.result.first c.loop-j.j _ v.firsts c.lawful_width-w.ensures in
+    refuse _ (λ h. sample_some b i c.loop-j.j (samples_law b i h c.loop-j.j (omega (arith, v.counted, c.loop-j-test.true))).0 (sym e ∙ c.if-w-eq0.true))
+
+-- the width kept is the first sample's
+kept : (c : Joined-j-eq0) → c.if-j-eq0.width ≡ width_at c.args.t.now c.args.i 0
+kept c =
+    let b = c.args.t.now in
+    let i = c.args.i in
+    let v = c.loop-j.invariant in
+    let e = read b i c.parameter_at-e.result.first c.loop-j.j _ v.firsts c.lawful_width-w.ensures in
+    let s = sample_width b i c.loop-j.j (λ z. c.if-w-eq0.false (e ∙ z)) in
+    ⊎_elim
+    (λ w. w.1 ∙ e ∙ s.1 ∙ ap (width_at b i) w.0.taken)
+    (λ w. w.1 ∙ v.wide (let n = w.0.left in omega (arith, n)))
+    c.if-j-eq0.branch
+
+pub returns-then-w-width : goal.returns-then-w-width
+returns-then-w-width c =
+    let b = c.args.t.now in
+    let i = c.args.i in
+    let v = c.loop-j.invariant in
+    let e = read b i c.parameter_at-e.result.first c.loop-j.j _ v.firsts c.lawful_width-w.ensures in
+    let s = sample_width b i c.loop-j.j (λ z. c.if-w-eq0.false (e ∙ z)) in
+    refuse _ (λ h. c.if-w-width.true (e ∙ s.1 ∙ (samples_law b i h c.loop-j.j (omega (arith, v.counted, c.loop-j-test.true))).1 ∙ sym (kept (goal.at.returns-then-w-width c).Joined-j-eq0)))
+
+pub overflow_add-j : goal.overflow_add-j
+overflow_add-j c = omega (arith, c.loop-j-test.true, c.parameter_at-e.ensures.count_below)
+
+pub loop-j-smaller : goal.loop-j-smaller
+loop-j-smaller c = omega (arith, c.loop-j-test.true)
+
+pub loop-j-preserved : goal.loop-j-preserved
+loop-j-preserved c =
+    let b = c.args.t.now in
+    let i = c.args.i in
+    let v = c.loop-j.invariant in
+    let e = read b i c.parameter_at-e.result.first c.loop-j.j _ v.firsts c.lawful_width-w.ensures in
+    let s = sample_width b i c.loop-j.j (λ z. c.if-w-eq0.false (e ∙ z)) in
+    let k = kept (goal.at.loop-j-preserved c).Joined-j-eq0 in
+    record {
+      firsts = v.firsts;
+      counted = v.counted;
+      within = omega (arith, c.loop-j-test.true);
+      wide = λ l. k;
+      done = below_more (Fine b i) c.loop-j.j v.done (s.0, sym s.1 ∙ sym e ∙ c.if-w-width.false ∙ k);
+    }
+
+pub returns : goal.returns
+returns c =
+    let v = c.loop-j.invariant in
+    sym (samples_made _ _ (λ j l. v.done j (omega (arith, v.counted, v.within, c.loop-j-test.false, l))))
