@@ -209,8 +209,10 @@ class Turn:
         t = re.sub(r"(\.(?:if|loop|walk|while)[^\s.()]*)\.left\b", r"\1.false", t)
         t = re.sub(r"\b([cs])((?:\.before)*)\.pre\b(?!-)", r"\1\2.requires", t)
         # a test of `!x` says what it says of x
-        t = re.sub(r"\(not-(?:true|false) _ (c\.[^\s()]*)\)", r"\1", t)
-        t = re.sub(r"(?<![\w-])not-(?:true|false) _ (c\.[^\s()]*)", r"\1", t)
+        t = re.sub(r"\(not-(?:true|false) _ (\w+\.[^\s()]*)\)", r"@\1", t)
+        t = re.sub(r"(?<![\w-])not-(?:true|false) _ (\w+\.[^\s()]*)", r"@\1", t)
+        t = re.sub(r"(?<![@\w.])(\w+(?:\.before)*\.if-not-[^\s.()]*\.(?:true|false))(?![\w-])", r"(ap not \1)", t)
+        t = t.replace("@", "")
         own = self.known.get(self.path.split(".")[-1], ([], []))
         if len(own[0]) > 1:
             for path, n in spread(own[0]):
@@ -250,6 +252,26 @@ class Turn:
             b = re.sub(r"\blet " + v + r" = c(?:\.before)+ in", f"let {v} = c in", b)
             b = re.sub(r"(?<![\w'.-])" + v + r"((?:\.before)+)(?=\.)", v, b)
         return b
+
+    def branches(self, b):
+        """Cases of a join by the constructors that today's goals have."""
+        def turn(m):
+            step = m[5]
+            k = step[3:] if step.startswith("if-") else step
+            names = sorted(set(re.findall(r"\bc\." + re.escape(step) + r"\.([\w]+)", b)) - {"branch", "auto", "true", "false", "ensures"})
+            var = names[0] if len(names) == 1 else "VAR"
+            one, two = m[2], m[4]
+            for w, text in ((m[1], 1), (m[3], 2)):
+                pass
+            def inside(t, w):
+                t = re.sub(r"\b" + w + r"\.0\.(?:taken|true)\b", f"{w}.{step}.true", t)
+                t = re.sub(r"\b" + w + r"\.0\.(?:left|false)\b", f"{w}.{step}.false", t)
+                return re.sub(r"\b" + w + r"\.1\b", f"{w}.{var}-is", t)
+            self.cited |= {f"then-{k}", f"else-{k}"}
+            return f"elim c.{step}.branch [ then-{k} {m[1]} ↦ {inside(one, m[1])} | else-{k} {m[3]} ↦ {inside(two, m[3])} ]"
+
+        balanced = r"((?:[^()]|\((?:[^()]|\((?:[^()]|\((?:[^()]|\([^()]*\))*\))*\))*\))*)"
+        return re.sub(r"⊎_elim\s+\(λ (\w+)\. " + balanced + r"\)\s+\(λ (\w+)\. " + balanced + r"\)\s+c\.([^\s.()]+)\.branch", turn, b)
 
     def run(self):
         path = self.folder + "/Proof.antt"
@@ -295,7 +317,7 @@ class Turn:
                 if a:
                     answers.append(("goal", a))
             else:
-                h = self.terms(self.apply(b))
+                h = self.branches(self.terms(self.apply(b)))
                 answers.append(("helper", self.heights(h, self.helpers.get(m[2])) if m else h))
         # what an invariant names goes beside it
         names = " ".join(invariants)
@@ -334,6 +356,10 @@ class Turn:
             extra = [f"use {module}.Invariants.{{{', '.join(mine)}}}"] if mine else []
             places = sorted(n for n in self.cited if re.search(r"(?<![\w'.-])" + re.escape(n) + r"(?![\w'-])", body))
             extra += [f"use {module}.Goals.{{{', '.join(places)}}}"] if places else []
+            if "(ap not " in body:
+                if not any("{" in u and re.search(r"[{ ]ap[,}]", u) for u in self.used(uses, body)):
+                    extra.append("use mathlib.Core.Path.{ap}")
+                extra.append("use mathlib.Core.Bool.{not}")
             self.write("Answers.antt", (given if not invariants else []) + self.used(uses, body) + extra + [f"use {module}.Goals as goal"], body)
             out.append("Answers")
         os.remove(path)
@@ -419,12 +445,15 @@ class Turn:
             return None
         f = re.match(r"(.*?)-requires", new)
         at = next((self.places.get(plain(a[0]), a[1]) for n, a in zip(self.of["needs"], self.of["asked_at"]) if n[1] == new), None)
-        body = self.heights(self.terms(self.apply(body)), at, new)
+        body = self.heights(self.branches(self.terms(self.apply(body))), at, new)
         if f and "-requires" in new:
             call = f[1]
             name = self.callee.get(call) or next((v for s, v in self.callee.items() if s == call or call.startswith(v)), None) or re.split("-", call)[0]
             req = self.known.get(name, ([], []))[0]
-            if len(req) > 1:
+            own = self.known.get(self.path.split(".")[-1], ([], []))[0]
+            if len(req) > 1 and body.strip() == "c.requires" and len(own) == len(req):
+                body = " record { " + "; ".join(f"{n} = c.requires.{o}" for n, o in zip(req, own)) + " }"
+            elif len(req) > 1:
                 body = as_record(body, req)
         elif new.startswith("returns"):
             ens = self.known.get(self.path.split(".")[-1], ([], []))[1]

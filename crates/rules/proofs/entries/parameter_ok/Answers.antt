@@ -60,7 +60,7 @@ returns-then-most-e-2 c =
     refuse _ (λ h. let r = (parameter_law (limits_in b) (subframes_of b) (parameter_at b i) h).few in omega (arith, r, c.parameter_at-e.ensures.count_is, n, ap (λ (l : Limits). l.samples_each) (bounds_are _ c.requires.opened_of.form_is c.bounds_of-most.ensures), c.if-most-e-2.true))
 
 pub samples_ok-requires : goal.samples_ok-requires
-samples_ok-requires c = let p = (c.requires) in record { opened_of = p.0; rows = p.1.0; parameter_here = p.1.1.0; subframes_law = p.1.1.1 }
+samples_ok-requires c = record { opened_of = c.requires.opened_of; rows = c.requires.rows; parameter_here = c.requires.parameter_here; subframes_law = c.requires.subframes_law }
 
 pub returns-then-not-samples_ok : goal.returns-then-not-samples_ok
 returns-then-not-samples_ok c =

@@ -1,6 +1,5 @@
 use mathlib.Core.Path.{◌≡◌, sym, ap, ◌∙◌}
 use mathlib.Core.Bool.{true}
-use mathlib.Core.Logic.{⊎_elim}
 use mathlib.Core.List.{List}
 use Prim.Native.Nat.{ℕ, ◌+◌, ◌-◌}
 use native.Mathlib.Omega.{arith}
@@ -11,7 +10,7 @@ use Rattle.model.proofs.Laying.{sample_here}
 use Rattle.rules.specs.Ruled.{lawful_width}
 use Rattle.rules.proofs.Parameters.{width_at, width_of_sample, sample_width, sample_some, samples_law, samples_made}
 use Rattle.rules.proofs.entries.samples_ok.Invariants.{Fine}
-use Rattle.rules.proofs.entries.samples_ok.Goals.{Joined-j-eq0}
+use Rattle.rules.proofs.entries.samples_ok.Goals.{Joined-j-eq0, else-j-eq0, then-j-eq0}
 use Rattle.rules.proofs.entries.samples_ok.Goals as goal
 
 -- the width that was read is sample j's
@@ -51,10 +50,7 @@ kept c =
     let v = c.loop-j.invariant in
     let e = read b i c.parameter_at-e.result.first c.loop-j.j _ v.firsts c.lawful_width-w.ensures in
     let s = sample_width b i c.loop-j.j (λ z. c.if-w-eq0.false (e ∙ z)) in
-    ⊎_elim
-    (λ w. w.1 ∙ e ∙ s.1 ∙ ap (width_at b i) w.0.taken)
-    (λ w. w.1 ∙ v.wide (let n = w.0.left in omega (arith, n)))
-    c.if-j-eq0.branch
+    elim c.if-j-eq0.branch [ then-j-eq0 w ↦ w.width-is ∙ e ∙ s.1 ∙ ap (width_at b i) w.if-j-eq0.true | else-j-eq0 w ↦ w.width-is ∙ v.wide (let n = w.if-j-eq0.false in omega (arith, n)) ]
 
 pub returns-then-w-width : goal.returns-then-w-width
 returns-then-w-width c =

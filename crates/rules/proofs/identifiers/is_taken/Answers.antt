@@ -1,6 +1,5 @@
 use mathlib.Core.Path.{◌≡◌, refl, sym, ◌∙◌}
 use mathlib.Core.Bool.{false}
-use mathlib.Core.Logic.{⊎_elim}
 use Prim.Native.Nat.{◌-◌, ◌<◌}
 use native.Mathlib.Numerals.{add-one}
 use native.Mathlib.Omega.{arith}
@@ -11,6 +10,7 @@ use Rattle.model.specs.Identifiers.{lies}
 use Rattle.model.specs.Stored.{parameters_in}
 use Rattle.model.specs.View.{parameter_at}
 use Rattle.rules.proofs.Identifying.{takes, taken_at}
+use Rattle.rules.proofs.identifiers.is_taken.Goals.{then-is_identifier+else-lies_in-s, else-is_identifier}
 use Rattle.rules.proofs.identifiers.is_taken.Goals as goal
 
 pub loop-i-init : goal.loop-i-init
@@ -32,12 +32,10 @@ loop-i-preserved c =
     let i = c.loop-i.i in
     let e = c.is_identifier.ensures in
     let x : takes b s i ≡ false =
-    ⊎_elim
-    (λ w.
-    let f = ne_eqb (lies (parameter_at b i)) s (λ h. omega arith) in
-    rw (sym e ∙ w.0.taken, f))
-    (λ w. rw (sym e ∙ w.left))
-    c.if-is_identifier.branch in
+    elim c.if-is_identifier.branch [
+      then-is_identifier+else-lies_in-s w ↦ let f = ne_eqb (lies (parameter_at b i)) s (λ h. omega arith) in rw (sym e ∙ w.if-is_identifier.true, f)
+    | else-is_identifier w ↦ rw (sym e ∙ w.if-is_identifier.false)
+    ] in
     record { within = omega arith; none = rw (add-one, c.loop-i.invariant.none, x) }
 
 pub returns : goal.returns

@@ -1,13 +1,12 @@
 use mathlib.Core.Path.{◌≡◌, refl, sym, ◌∙◌}
 use mathlib.Core.Bool.{true, false}
-use mathlib.Core.Logic.{⊎_elim}
 use Prim.Native.Nat.{◌-◌}
 use native.Mathlib.Omega.{arith}
-use borrow.Author.Tests.{not-false}
 use Rattle.lay.proofs.Tests.{refuse, differ}
 use Rattle.lay.proofs.Below.{all_more, all_below}
 use Rattle.rules.specs.Ruled.{newly_identified}
 use Rattle.rules.proofs.Identifying.{apart_from}
+use Rattle.rules.proofs.identifiers.newly_identified.Goals.{then-is_identifier+else-not-identified_apart, else-is_identifier}
 use Rattle.rules.proofs.identifiers.newly_identified.Goals as goal
 
 pub loop-k-init : goal.loop-k-init
@@ -35,10 +34,10 @@ loop-k-preserved c =
     let k = c.loop-k.k in
     let e = c.is_identifier.ensures in
     let x : apart_from b i k ≡ true =
-    ⊎_elim
-    (λ w. rw (sym e ∙ w.0.taken, sym w.1.ensures ∙ not-false _ w.2.left))
-    (λ w. rw (sym e ∙ w.left))
-    c.if-is_identifier.branch in
+    elim c.if-is_identifier.branch [
+      then-is_identifier+else-not-identified_apart w ↦ rw (sym e ∙ w.if-is_identifier.true, sym w.identified_apart.ensures ∙ w.if-not-identified_apart.false)
+    | else-is_identifier w ↦ rw (sym e ∙ w.if-is_identifier.false)
+    ] in
     record { within = omega arith; done = all_more k (apart_from b i) c.loop-k.invariant.done x }
 
 pub returns : goal.returns

@@ -1,6 +1,5 @@
 -- The names are compared, and the mnemonics and identifications where the later one has one: two that are the same are refused.
 use mathlib.Core.Path.{◌≡◌, sym, ap, ◌∙◌}
-use mathlib.Core.Logic.{⊎_elim}
 use mathlib.Core.Bool.{Bool, true, false}
 use mathlib.Core.List.{List}
 use Prim.Native.Nat.{ℕ}
@@ -11,6 +10,7 @@ use Rattle.lay.proofs.Tests.{refuse, differ}
 use Rattle.lay.proofs.Bytes.{same_eq, same_made}
 use Rattle.model.specs.View.{parameter_at}
 use Rattle.model.proofs.Meanings.{apart_law, apart_made}
+use Rattle.rules.proofs.names.named_apart.Goals.{then-mnemonic-gt0+else-same_text-2, else-mnemonic-gt0}
 use Rattle.rules.proofs.names.named_apart.Goals as goal
 
 -- two texts that are found to be the same, and two that are not
@@ -56,10 +56,10 @@ returns-else-same_text-3 c =
     (record {
       name = apart c.name_in.ensures.0 c.name_in-2.ensures.0 c.same_text.ensures c.if-same_text.false;
       mnemonic =
-          ⊎_elim
-          (λ w l. apart w.1.ensures m w.2.ensures w.3.left)
-          (λ w l. absurd (omega (arith, w.left, ap length m)))
-          c.if-mnemonic-gt0.branch;
+          elim c.if-mnemonic-gt0.branch [
+            then-mnemonic-gt0+else-same_text-2 w ↦ λ l. apart w.mnemonic_in.ensures m w.same_text-then-mnemonic-gt0.ensures w.if-same_text-2.false
+          | else-mnemonic-gt0 w ↦ λ l. absurd (omega (arith, w.if-mnemonic-gt0.false, ap length m))
+          ];
       identification = λ l. apart c.identification_in.ensures d c.same_text-then-identification-gt0.ensures c.if-same_text-3.false;
     }))
 
@@ -73,9 +73,9 @@ returns-else-identification-gt0 c =
     (record {
       name = apart c.name_in.ensures.0 c.name_in-2.ensures.0 c.same_text.ensures c.if-same_text.false;
       mnemonic =
-          ⊎_elim
-          (λ w l. apart w.1.ensures m w.2.ensures w.3.left)
-          (λ w l. absurd (omega (arith, w.left, ap length m)))
-          c.if-mnemonic-gt0.branch;
+          elim c.if-mnemonic-gt0.branch [
+            then-mnemonic-gt0+else-same_text-2 w ↦ λ l. apart w.mnemonic_in.ensures m w.same_text-then-mnemonic-gt0.ensures w.if-same_text-2.false
+          | else-mnemonic-gt0 w ↦ λ l. absurd (omega (arith, w.if-mnemonic-gt0.false, ap length m))
+          ];
       identification = λ l. absurd (omega (arith, c.if-identification-gt0.false, ap length d));
     }))

@@ -19,6 +19,7 @@ use Rattle.rules.specs.Ruled.{subframes_of, SubframesLaw, in_order, components_o
 use Rattle.rules.proofs.Samplings.{left, lies_there}
 use Rattle.rules.proofs.Widths.{high_small, low_some, overlap_fewer, left_width, left_over, components_none, components_all_lem}
 use Rattle.rules.proofs.samples.components_width.Invariants.{Passed}
+use mathlib.Core.Bool.{not}
 use Rattle.rules.proofs.samples.components_width.Goals as goal
 
 -- what the component at hand adds
@@ -94,18 +95,18 @@ overflow_add-width c = omega (arith, c.component_at-c.ensures.high_below)
 
 pub overflow_sub-width : goal.overflow_sub-width
 overflow_sub-width c =
-    let a = adds c.requires.subframes_law c.loop-k.invariant c.loop-k-test.true c.in_order.ensures c.if-not-in_order.false c.component_at-c.ensures in
+    let a = adds c.requires.subframes_law c.loop-k.invariant c.loop-k-test.true c.in_order.ensures (ap not c.if-not-in_order.false) c.component_at-c.ensures in
     omega (arith, a.rising)
 
 pub overflow_sub-width-in-loop-k : goal.overflow_sub-width-in-loop-k
 overflow_sub-width-in-loop-k c =
-    let a = adds c.requires.subframes_law c.loop-k.invariant c.loop-k-test.true c.in_order.ensures c.if-not-in_order.false c.component_at-c.ensures in
+    let a = adds c.requires.subframes_law c.loop-k.invariant c.loop-k-test.true c.in_order.ensures (ap not c.if-not-in_order.false) c.component_at-c.ensures in
     omega (arith, a.lapped)
 
 pub overflow_add-width-in-loop-k : goal.overflow_add-width-in-loop-k
 overflow_add-width-in-loop-k c =
     let v = c.loop-k.invariant in
-    let a = adds c.requires.subframes_law v c.loop-k-test.true c.in_order.ensures c.if-not-in_order.false c.component_at-c.ensures in
+    let a = adds c.requires.subframes_law v c.loop-k-test.true c.in_order.ensures (ap not c.if-not-in_order.false) c.component_at-c.ensures in
     omega (arith, v.low, v.few, v.within, a.small, a.rising, a.lapped)
 
 pub overflow_add-k : goal.overflow_add-k
@@ -120,7 +121,7 @@ loop-k-preserved c =
     let j = c.args.j in
     let v = c.loop-k.invariant in
     let l = c.loop-k-test.true in
-    let a = adds c.requires.subframes_law v l c.in_order.ensures c.if-not-in_order.false c.component_at-c.ensures in
+    let a = adds c.requires.subframes_law v l c.in_order.ensures (ap not c.if-not-in_order.false) c.component_at-c.ensures in
     record {
       firsts = v.firsts;
       counted = v.counted;

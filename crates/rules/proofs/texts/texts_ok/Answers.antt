@@ -13,6 +13,7 @@ use Rattle.stored.proofs.Reading.{known_here, bounds_are}
 use Rattle.model.specs.Rules.{text_ok}
 use Rattle.model.specs.Stored.{name_in, mnemonic_in, identification_in}
 use Rattle.rules.specs.Ruled.{texts_ok}
+use mathlib.Core.Bool.{not}
 use Rattle.rules.proofs.texts.texts_ok.Goals as goal
 
 named : (b : List ℕ) (i : ℕ) → texts_ok b i ≡ true → 1 ≤ length (name_in b i)
@@ -38,21 +39,21 @@ returns-then-name-lt1 c = refuse _ (λ h. let some = named _ _ h in omega (arith
 
 pub returns-then-not-text_ok : goal.returns-then-not-text_ok
 unfolding texts_ok
-returns-then-not-text_ok c = refuse _ (λ h. differ (bad (bounds_are _ c.requires.opened_of.form_is c.bounds_of-most.ensures) c.name_in-name.ensures.0 c.text_ok.ensures c.if-not-text_ok.true) (rule _ h 1))
+returns-then-not-text_ok c = refuse _ (λ h. differ (bad (bounds_are _ c.requires.opened_of.form_is c.bounds_of-most.ensures) c.name_in-name.ensures.0 c.text_ok.ensures (ap not c.if-not-text_ok.true)) (rule _ h 1))
 
 pub returns-then-not-text_ok-2 : goal.returns-then-not-text_ok-2
 unfolding texts_ok
-returns-then-not-text_ok-2 c = refuse _ (λ h. differ (bad (bounds_are _ c.requires.opened_of.form_is c.bounds_of-most.ensures) c.mnemonic_in.ensures c.text_ok-2.ensures c.if-not-text_ok-2.true) (rule _ h 2))
+returns-then-not-text_ok-2 c = refuse _ (λ h. differ (bad (bounds_are _ c.requires.opened_of.form_is c.bounds_of-most.ensures) c.mnemonic_in.ensures c.text_ok-2.ensures (ap not c.if-not-text_ok-2.true)) (rule _ h 2))
 
 pub returns-then-not-text_ok-3 : goal.returns-then-not-text_ok-3
 unfolding texts_ok
-returns-then-not-text_ok-3 c = refuse _ (λ h. differ (bad (bounds_are _ c.requires.opened_of.form_is c.bounds_of-most.ensures) c.identification_in.ensures c.text_ok-3.ensures c.if-not-text_ok-3.true) (rule _ h 3))
+returns-then-not-text_ok-3 c = refuse _ (λ h. differ (bad (bounds_are _ c.requires.opened_of.form_is c.bounds_of-most.ensures) c.identification_in.ensures c.text_ok-3.ensures (ap not c.if-not-text_ok-3.true)) (rule _ h 3))
 
 pub returns : goal.returns
 returns c =
     let name = c.name_in-name.ensures.0 in
     let some = c.if-name-lt1.false in
     sym
-    (joined _ _ (omega (arith, ap length name, some)) (good (bounds_are _ c.requires.opened_of.form_is c.bounds_of-most.ensures) name c.text_ok.ensures c.if-not-text_ok.false)
-    (good (bounds_are _ c.requires.opened_of.form_is c.bounds_of-most.ensures) c.mnemonic_in.ensures c.text_ok-2.ensures c.if-not-text_ok-2.false)
-    (good (bounds_are _ c.requires.opened_of.form_is c.bounds_of-most.ensures) c.identification_in.ensures c.text_ok-3.ensures c.if-not-text_ok-3.false))
+    (joined _ _ (omega (arith, ap length name, some)) (good (bounds_are _ c.requires.opened_of.form_is c.bounds_of-most.ensures) name c.text_ok.ensures (ap not c.if-not-text_ok.false))
+    (good (bounds_are _ c.requires.opened_of.form_is c.bounds_of-most.ensures) c.mnemonic_in.ensures c.text_ok-2.ensures (ap not c.if-not-text_ok-2.false))
+    (good (bounds_are _ c.requires.opened_of.form_is c.bounds_of-most.ensures) c.identification_in.ensures c.text_ok-3.ensures (ap not c.if-not-text_ok-3.false)))
