@@ -103,7 +103,8 @@ def split_tuple(t):
         elif ch == "," and depth == 1:
             parts.append(t[last:i].strip())
             last = i + 1
-    parts.append(t[last:-1].strip())
+    if t[last:-1].strip():
+        parts.append(t[last:-1].strip())
     return parts if len(parts) > 1 else None
 
 

@@ -1,0 +1,19 @@
+-- The part that the asked parameter's name is, or the empty part at the table's start.
+use mathlib.Core.Path.{refl}
+use Rattle.model.proofs.Laying.{accepted_laid, parameter_here}
+use Rattle.table.proofs.Asking.{no_name, named_here}
+use Rattle.table.proofs.naming.name_of.Goals as goal
+
+pub name_in-requires : goal.name_in-requires
+name_in-requires c =
+    let h = c.requires.asked_here.each _ c.in-Parameter.is in
+    record { opened_of = c.requires.opened_of; parameter_here = parameter_here _ (accepted_laid _ h.accepted).entries _ h.here }
+
+pub returns-in-Parameter : goal.returns-in-Parameter
+returns-in-Parameter c =
+    let e = c.in-Parameter.is in
+    let h = c.requires.asked_here.each _ e in
+    named_here _ _ _ _ e h.here c.name_in.ensures.0 c.name_in.ensures.1
+
+pub returns-in-Refused : goal.returns-in-Refused
+returns-in-Refused c = no_name _ _ _ _ c.in-Refused.is refl refl
