@@ -18,7 +18,7 @@ LOOPS = (("-holds", "-init"), ("-less", "-smaller"), ("-again", "-preserved"))
 
 
 def plain(name):
-    return re.sub(r"-+", "-", name.replace("_", "-"))
+    return re.sub(r"-+", "-", name.replace("_", "-")).lower()
 
 
 def old_text(path):
@@ -182,8 +182,11 @@ class Turn:
                 return n
         return None
 
-    def terms(self, t):
-        """A text with today's names of steps, places, clauses."""
+    def terms(self, t, at=None):
+        """A text with today's names of steps, places, clauses, as they are on the way to a place."""
+        steps, arms = self.way(at)
+        steps = {**self.steps, **steps}
+        arms = sorted(set(arms), key=lambda a: -len(a[1])) + self.arms
         def place(m):
             new = self.places.get(plain(m[1]), m[1])
             self.cited.add(new)
@@ -195,13 +198,17 @@ class Turn:
         t = re.sub(r"\btie\.((?:After|In|Then|Else|At|Start|Joined)[^\s()]*)", place, t)
 
         # a label that the respelling took for a lemma's name
-        t = re.sub(r"(?<=[\w)])\.(" + WORD + r")_lem\b", lambda m: "." + m[1] if plain(m[1]) in self.steps else m[0], t)
-        for old, path, new in self.arms:
-            t = re.sub(r"\.(" + WORD + r")\." + re.escape(path) + r"(?![\w'-])", lambda m: new if plain(m[1]) == old else m[0], t)
+        t = re.sub(r"(?<=[\w)])\.(" + WORD + r")_lem\b", lambda m: "." + m[1] if plain(m[1]) in steps else m[0], t)
+        for old, path, new in arms:
+            end = r"(?![\w'-])" if path != "keys" else r"(?=\d)"
+            t = re.sub(r"\.(" + WORD + r")\." + re.escape(path) + end, lambda m: new if plain(m[1]) == old else m[0], t)
+
+        # what a last arm knows of the variants that do not come to it
+        t = re.sub(r"(?<![\w.])((?:\w+\.)(?:[^\s()]*\.)?in_default-own\.keys\d+)", r"(among \1)", t)
 
         def step(m):
             old = plain(m[1])
-            return "." + self.steps.get(old, m[1])
+            return "." + steps.get(old, m[1])
 
         t = re.sub(r"(?<=[\w)])\.(" + WORD + r")", lambda m: step(m), t)
         # what lies behind before
@@ -227,6 +234,25 @@ class Turn:
                 for path, n in spread(ens):
                     t = re.sub(re.escape("." + s) + r"\.ensures" + re.escape(path) + r"(?![\d])", "." + s + ".ensures" + n, t)
         return t
+
+    def way(self, at):
+        """Today's names of the steps on the way to a place, and of the arms there."""
+        parents = {self.of["places_by_name"][k]: (k, p[1] and self.places.get(plain(p[1]))) for k, p in enumerate(self.of["places"])}
+        steps, arms = {}, []
+        while at in parents:
+            k, up = parents[at]
+            name, _, step, callee, _ = self.of["places"][k]
+            own = not callee and re.fullmatch(re.escape(step[0]) + r"-\d+", step[1]) and not re.search(r"_known|-known|enum_told", step[0])
+            if step[0] and not own:
+                steps.setdefault(plain(step[0]), step[1])
+            arm = self.of["arms"][k]
+            for field, old, path in (arm[2] if arm else ()):
+                if path:
+                    arms.append((plain(old), ".".join(path), f".{arm[0]}.{field}"))
+                elif field.endswith("-own"):
+                    arms.append((plain(old), "keys" , f".{arm[0]}.{field}.keys"))
+            at = up
+        return steps, arms
 
     def chain(self, at, to):
         """The .before's from one place up to another, or None."""
@@ -300,6 +326,8 @@ class Turn:
             else:
                 rest.append(b)
         said = []
+        given = re.search(r"tie\.spec((?:\s+[^\s()]+)*)", parts[-1])
+        self.order = [w for w in (given[1].split() if given else []) if not re.match(r"(invariant|decreases)-", w)]
         self.helpers = {}
         for b in rest:
             m = signature(b)
@@ -318,7 +346,7 @@ class Turn:
                 if a:
                     answers.append(("goal", a))
             else:
-                h = self.branches(self.terms(self.apply(b)))
+                h = self.branches(self.terms(self.apply(b), m and self.helpers.get(m[2])))
                 answers.append(("helper", self.heights(h, self.helpers.get(m[2])) if m else h))
         # what an invariant names goes beside it
         names = " ".join(invariants)
@@ -357,6 +385,8 @@ class Turn:
             extra = [f"use {module}.Invariants.{{{', '.join(mine)}}}"] if mine else []
             places = sorted(n for n in self.cited if re.search(r"(?<![\w'.-])" + re.escape(n) + r"(?![\w'-])", body))
             extra += [f"use {module}.Goals.{{{', '.join(places)}}}"] if places else []
+            if "(among " in body:
+                extra.append("use borrow.Enum.Refused.{opened as among}")
             if "(ap not " in body:
                 if not any("{" in u and re.search(r"[{ ]ap[,}]", u) for u in self.used(uses, body)):
                     extra.append("use mathlib.Core.Path.{ap}")
@@ -427,6 +457,8 @@ class Turn:
             new = self.need(re.match(r"tie\.Need-([^\s]+)", m[3])[1].replace("overflow-", "").replace("nonzero-", "").replace("slice-bounds", "slice"))
         if new is None and re.search(r"=\s*search (rules|needs)\s*$", b):
             return None
+        if new is None and len(self.order) == len(self.of["needs"]) and m[2] in self.order:
+            new = self.of["needs"][self.order.index(m[2])][1]
         if new is None:
             settled = [plain(s) for s in self.of["settled"]]
             said.append(f"no goal for {old_type}")
@@ -446,7 +478,7 @@ class Turn:
             return None
         f = re.match(r"(.*?)-requires", new)
         at = next((self.places.get(plain(a[0]), a[1]) for n, a in zip(self.of["needs"], self.of["asked_at"]) if n[1] == new), None)
-        body = self.heights(self.branches(self.terms(self.apply(body))), at, new)
+        body = self.heights(self.branches(self.terms(self.apply(body), at)), at, new)
         if f and "-requires" in new:
             call = f[1]
             name = self.callee.get(call) or next((v for s, v in self.callee.items() if s == call or call.startswith(v)), None) or re.split("-", call)[0]
