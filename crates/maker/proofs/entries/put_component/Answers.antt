@@ -45,31 +45,31 @@ pub put_item-requires-2 : goal.put_item-requires-2
 unfolding newest rows
 put_item-requires-2 c =
     let r = place_room plain (slots_of new_layout component_part) _ (length c.args.out.now) item.word _ (entry_at component_part _ _ _ _ (ap (λ (s : ComponentShape). s.size) c.component_shape-s.ensures) c.requires).ends (ap (λ (s : ComponentShape). s.word) c.component_shape-s.ensures) (wide_plain (slots_of new_layout component_part) new_sound.plain_component item.word) in
-    record { wide_in_bounds = omega (arith, r.0, c.out.given); wide_value = r.1 }
+    record { wide_in_bounds = omega (arith, r.0, c.out-1.given); wide_value = r.1 }
 
 pub put_item-requires-3 : goal.put_item-requires-3
 unfolding newest rows
 put_item-requires-3 c =
     let r = place_room plain (slots_of new_layout component_part) _ (length c.args.out.now) item.low _ (entry_at component_part _ _ _ _ (ap (λ (s : ComponentShape). s.size) c.component_shape-s.ensures) c.requires).ends (ap (λ (s : ComponentShape). s.low) c.component_shape-s.ensures) (wide_plain (slots_of new_layout component_part) new_sound.plain_component item.low) in
-    record { wide_in_bounds = omega (arith, r.0, c.out.given, c.out-2-1.given); wide_value = r.1 }
+    record { wide_in_bounds = omega (arith, r.0, c.out-1.given, c.out-2-1.given); wide_value = r.1 }
 
 pub put_item-requires-4 : goal.put_item-requires-4
 unfolding newest rows
 put_item-requires-4 c =
     let r = place_room plain (slots_of new_layout component_part) _ (length c.args.out.now) item.high _ (entry_at component_part _ _ _ _ (ap (λ (s : ComponentShape). s.size) c.component_shape-s.ensures) c.requires).ends (ap (λ (s : ComponentShape). s.high) c.component_shape-s.ensures) (wide_plain (slots_of new_layout component_part) new_sound.plain_component item.high) in
-    record { wide_in_bounds = omega (arith, r.0, c.out.given, c.out-2-1.given, c.out-3-1.given); wide_value = r.1 }
+    record { wide_in_bounds = omega (arith, r.0, c.out-1.given, c.out-2-1.given, c.out-3-1.given); wide_value = r.1 }
 
 pub put_item-requires-5 : goal.put_item-requires-5
 unfolding newest rows
 put_item-requires-5 c =
     let r = place_room plain (slots_of new_layout component_part) _ (length c.args.out.now) item.overlap _ (entry_at component_part _ _ _ _ (ap (λ (s : ComponentShape). s.size) c.component_shape-s.ensures) c.requires).ends (ap (λ (s : ComponentShape). s.overlap) c.component_shape-s.ensures) (wide_plain (slots_of new_layout component_part) new_sound.plain_component item.overlap) in
-    record { wide_in_bounds = omega (arith, r.0, c.out.given, c.out-2-1.given, c.out-3-1.given, c.out-4-1.given); wide_value = r.1 }
+    record { wide_in_bounds = omega (arith, r.0, c.out-1.given, c.out-2-1.given, c.out-3-1.given, c.out-4-1.given); wide_value = r.1 }
 
 pub put_item-requires-6 : goal.put_item-requires-6
 unfolding newest rows
 put_item-requires-6 c =
     let r = place_room plain (slots_of new_layout component_part) _ (length c.args.out.now) item.zero_byte _ (entry_at component_part _ _ _ _ (ap (λ (s : ComponentShape). s.size) c.component_shape-s.ensures) c.requires).ends (ap (λ (s : ComponentShape). s.zero) c.component_shape-s.ensures) (wide_plain (slots_of new_layout component_part) new_sound.plain_component item.zero_byte) in
-    record { wide_in_bounds = omega (arith, r.0, c.out.given, c.out-2-1.given, c.out-3-1.given, c.out-4-1.given, c.out-5-1.given); wide_value = r.1 }
+    record { wide_in_bounds = omega (arith, r.0, c.out-1.given, c.out-2-1.given, c.out-3-1.given, c.out-4-1.given, c.out-5-1.given); wide_value = r.1 }
 
 pub returns : goal.returns
 unfolding newest rows component_values

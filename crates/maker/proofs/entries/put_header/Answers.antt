@@ -31,76 +31,76 @@ pub put_item-requires-2 : goal.put_item-requires-2
 unfolding newest rows
 put_item-requires-2 c =
     let r = place_room plain new_layout.header 0 (length c.args.out.now) item.form _ (omega (arith, c.requires)) form_place (wide_plain new_layout.header new_sound.plain_head item.form) in
-    record { wide_in_bounds = omega (arith, r.0, c.out.given); wide_value = r.1 }
+    record { wide_in_bounds = omega (arith, r.0, c.out-1.given); wide_value = r.1 }
 
 pub put_item-requires-3 : goal.put_item-requires-3
 unfolding newest rows
 put_item-requires-3 c =
     let r = place_room plain new_layout.header 0 (length c.args.out.now) item.flags _ (omega (arith, c.requires)) (ap (λ (s : HeaderShape). s.flags) c.header_shape-s.ensures) (wide_plain new_layout.header new_sound.plain_head item.flags) in
-    record { wide_in_bounds = omega (arith, r.0, c.out.given, c.out-2-1.given); wide_value = r.1 }
+    record { wide_in_bounds = omega (arith, r.0, c.out-1.given, c.out-2-1.given); wide_value = r.1 }
 
 pub put_item-requires-4 : goal.put_item-requires-4
 unfolding newest rows
 put_item-requires-4 c =
     let r = place_room plain new_layout.header 0 (length c.args.out.now) item.zeros _ (omega (arith, c.requires)) (ap (λ (s : HeaderShape). s.zeros) c.header_shape-s.ensures) (wide_plain new_layout.header new_sound.plain_head item.zeros) in
-    record { wide_in_bounds = omega (arith, r.0, c.out.given, c.out-2-1.given, c.out-3-1.given); wide_value = r.1 }
+    record { wide_in_bounds = omega (arith, r.0, c.out-1.given, c.out-2-1.given, c.out-3-1.given); wide_value = r.1 }
 
 pub put_item-requires-5 : goal.put_item-requires-5
 unfolding newest rows
 put_item-requires-5 c =
     let r = place_room plain new_layout.header 0 (length c.args.out.now) item.text _ (omega (arith, c.requires)) (ap (λ (s : HeaderShape). s.text) c.header_shape-s.ensures) (wide_plain new_layout.header new_sound.plain_head item.text) in
-    record { wide_in_bounds = omega (arith, r.0, c.out.given, c.out-2-1.given, c.out-3-1.given, c.out-4-1.given); wide_value = r.1 }
+    record { wide_in_bounds = omega (arith, r.0, c.out-1.given, c.out-2-1.given, c.out-3-1.given, c.out-4-1.given); wide_value = r.1 }
 
 pub put_item-requires-6 : goal.put_item-requires-6
 unfolding newest rows
 put_item-requires-6 c =
     let r = place_room plain new_layout.header 0 (length c.args.out.now) (count subframe_part) _ (omega (arith, c.requires)) (ap (λ (s : HeaderShape). s.subframes) c.header_shape-s.ensures) (wide_plain new_layout.header new_sound.plain_head (count subframe_part)) in
-    record { wide_in_bounds = omega (arith, r.0, c.out.given, c.out-2-1.given, c.out-3-1.given, c.out-4-1.given, c.out-5-1.given); wide_value = r.1 }
+    record { wide_in_bounds = omega (arith, r.0, c.out-1.given, c.out-2-1.given, c.out-3-1.given, c.out-4-1.given, c.out-5-1.given); wide_value = r.1 }
 
 pub put_item-requires-7 : goal.put_item-requires-7
 unfolding newest rows
 put_item-requires-7 c =
     let r = place_room plain new_layout.header 0 (length c.args.out.now) (offset subframe_part) _ (omega (arith, c.requires)) (ap (λ (s : HeaderShape). s.subframe) c.header_shape-s.ensures) (wide_plain new_layout.header new_sound.plain_head (offset subframe_part)) in
-    record { wide_in_bounds = omega (arith, r.0, c.out.given, c.out-2-1.given, c.out-3-1.given, c.out-4-1.given, c.out-5-1.given, c.out-6-1.given); wide_value = r.1 }
+    record { wide_in_bounds = omega (arith, r.0, c.out-1.given, c.out-2-1.given, c.out-3-1.given, c.out-4-1.given, c.out-5-1.given, c.out-6-1.given); wide_value = r.1 }
 
 pub put_item-requires-8 : goal.put_item-requires-8
 unfolding newest rows
 put_item-requires-8 c =
     let r = place_room plain new_layout.header 0 (length c.args.out.now) (count parameter_part) _ (omega (arith, c.requires)) (ap (λ (s : HeaderShape). s.parameters) c.header_shape-s.ensures) (wide_plain new_layout.header new_sound.plain_head (count parameter_part)) in
-    record { wide_in_bounds = omega (arith, r.0, c.out.given, c.out-2-1.given, c.out-3-1.given, c.out-4-1.given, c.out-5-1.given, c.out-6-1.given, c.out-7-1.given); wide_value = r.1 }
+    record { wide_in_bounds = omega (arith, r.0, c.out-1.given, c.out-2-1.given, c.out-3-1.given, c.out-4-1.given, c.out-5-1.given, c.out-6-1.given, c.out-7-1.given); wide_value = r.1 }
 
 pub put_item-requires-9 : goal.put_item-requires-9
 unfolding newest rows
 put_item-requires-9 c =
     let r = place_room plain new_layout.header 0 (length c.args.out.now) (offset parameter_part) _ (omega (arith, c.requires)) (ap (λ (s : HeaderShape). s.parameter) c.header_shape-s.ensures) (wide_plain new_layout.header new_sound.plain_head (offset parameter_part)) in
-    record { wide_in_bounds = omega (arith, r.0, c.out.given, c.out-2-1.given, c.out-3-1.given, c.out-4-1.given, c.out-5-1.given, c.out-6-1.given, c.out-7-1.given, c.out-8-1.given); wide_value = r.1 }
+    record { wide_in_bounds = omega (arith, r.0, c.out-1.given, c.out-2-1.given, c.out-3-1.given, c.out-4-1.given, c.out-5-1.given, c.out-6-1.given, c.out-7-1.given, c.out-8-1.given); wide_value = r.1 }
 
 pub put_item-requires-10 : goal.put_item-requires-10
 unfolding newest rows
 put_item-requires-10 c =
     let r = place_room plain new_layout.header 0 (length c.args.out.now) (count sample_part) _ (omega (arith, c.requires)) (ap (λ (s : HeaderShape). s.samples) c.header_shape-s.ensures) (wide_plain new_layout.header new_sound.plain_head (count sample_part)) in
-    record { wide_in_bounds = omega (arith, r.0, c.out.given, c.out-2-1.given, c.out-3-1.given, c.out-4-1.given, c.out-5-1.given, c.out-6-1.given, c.out-7-1.given, c.out-8-1.given, c.out-9-1.given); wide_value = r.1 }
+    record { wide_in_bounds = omega (arith, r.0, c.out-1.given, c.out-2-1.given, c.out-3-1.given, c.out-4-1.given, c.out-5-1.given, c.out-6-1.given, c.out-7-1.given, c.out-8-1.given, c.out-9-1.given); wide_value = r.1 }
 
 pub put_item-requires-11 : goal.put_item-requires-11
 unfolding newest rows
 put_item-requires-11 c =
     let r = place_room plain new_layout.header 0 (length c.args.out.now) (offset sample_part) _ (omega (arith, c.requires)) (ap (λ (s : HeaderShape). s.sample) c.header_shape-s.ensures) (wide_plain new_layout.header new_sound.plain_head (offset sample_part)) in
-    record { wide_in_bounds = omega (arith, r.0, c.out.given, c.out-2-1.given, c.out-3-1.given, c.out-4-1.given, c.out-5-1.given, c.out-6-1.given, c.out-7-1.given, c.out-8-1.given, c.out-9-1.given, c.out-10-1.given); wide_value = r.1 }
+    record { wide_in_bounds = omega (arith, r.0, c.out-1.given, c.out-2-1.given, c.out-3-1.given, c.out-4-1.given, c.out-5-1.given, c.out-6-1.given, c.out-7-1.given, c.out-8-1.given, c.out-9-1.given, c.out-10-1.given); wide_value = r.1 }
 
 pub put_item-requires-12 : goal.put_item-requires-12
 unfolding newest rows
 put_item-requires-12 c =
     let r = place_room plain new_layout.header 0 (length c.args.out.now) (count component_part) _ (omega (arith, c.requires)) (ap (λ (s : HeaderShape). s.components) c.header_shape-s.ensures) (wide_plain new_layout.header new_sound.plain_head (count component_part)) in
-    record { wide_in_bounds = omega (arith, r.0, c.out.given, c.out-2-1.given, c.out-3-1.given, c.out-4-1.given, c.out-5-1.given, c.out-6-1.given, c.out-7-1.given, c.out-8-1.given, c.out-9-1.given, c.out-10-1.given, c.out-11-1.given); wide_value = r.1 }
+    record { wide_in_bounds = omega (arith, r.0, c.out-1.given, c.out-2-1.given, c.out-3-1.given, c.out-4-1.given, c.out-5-1.given, c.out-6-1.given, c.out-7-1.given, c.out-8-1.given, c.out-9-1.given, c.out-10-1.given, c.out-11-1.given); wide_value = r.1 }
 
 pub put_item-requires-13 : goal.put_item-requires-13
 unfolding newest rows
 put_item-requires-13 c =
     let r = place_room plain new_layout.header 0 (length c.args.out.now) (offset component_part) _ (omega (arith, c.requires)) (ap (λ (s : HeaderShape). s.component) c.header_shape-s.ensures) (wide_plain new_layout.header new_sound.plain_head (offset component_part)) in
-    record { wide_in_bounds = omega (arith, r.0, c.out.given, c.out-2-1.given, c.out-3-1.given, c.out-4-1.given, c.out-5-1.given, c.out-6-1.given, c.out-7-1.given, c.out-8-1.given, c.out-9-1.given, c.out-10-1.given, c.out-11-1.given, c.out-12-1.given); wide_value = r.1 }
+    record { wide_in_bounds = omega (arith, r.0, c.out-1.given, c.out-2-1.given, c.out-3-1.given, c.out-4-1.given, c.out-5-1.given, c.out-6-1.given, c.out-7-1.given, c.out-8-1.given, c.out-9-1.given, c.out-10-1.given, c.out-11-1.given, c.out-12-1.given); wide_value = r.1 }
 
 pub shape_of-out : goal.shape_of-out
-shape_of-out c = omega (arith, c.out-13-1.given, c.out-12-1.given, c.out-11-1.given, c.out-10-1.given, c.out-9-1.given, c.out-8-1.given, c.out-7-1.given, c.out-6-1.given, c.out-5-1.given, c.out-4-1.given, c.out-3-1.given, c.out-2-1.given, c.out.given)
+shape_of-out c = omega (arith, c.out-13-1.given, c.out-12-1.given, c.out-11-1.given, c.out-10-1.given, c.out-9-1.given, c.out-8-1.given, c.out-7-1.given, c.out-6-1.given, c.out-5-1.given, c.out-4-1.given, c.out-3-1.given, c.out-2-1.given, c.out-1.given)
 
 pub returns : goal.returns
 unfolding newest rows head_by

@@ -44,46 +44,46 @@ pub put_item-requires-2 : goal.put_item-requires-2
 unfolding newest rows
 put_item-requires-2 c =
     let r = place_room plain (slots_of new_layout parameter_part) _ (length c.args.out.now) item.mnemonic_length _ (entry_at parameter_part _ _ _ _ (ap (λ (s : ParameterShape). s.size) c.parameter_shape-s.ensures) c.requires).ends (ap (λ (s : ParameterShape). s.mnemonic) c.parameter_shape-s.ensures) (wide_plain (slots_of new_layout parameter_part) new_sound.plain_parameter item.mnemonic_length) in
-    record { wide_in_bounds = omega (arith, r.0, c.out.given); wide_value = r.1 }
+    record { wide_in_bounds = omega (arith, r.0, c.out-1.given); wide_value = r.1 }
 
 pub put_item-requires-3 : goal.put_item-requires-3
 unfolding newest rows
 put_item-requires-3 c =
     let r = place_room plain (slots_of new_layout parameter_part) _ (length c.args.out.now) item.identification_length _ (entry_at parameter_part _ _ _ _ (ap (λ (s : ParameterShape). s.size) c.parameter_shape-s.ensures) c.requires).ends (ap (λ (s : ParameterShape). s.identification) c.parameter_shape-s.ensures) (wide_plain (slots_of new_layout parameter_part) new_sound.plain_parameter item.identification_length) in
-    record { wide_in_bounds = omega (arith, r.0, c.out.given, c.out-2-1.given); wide_value = r.1 }
+    record { wide_in_bounds = omega (arith, r.0, c.out-1.given, c.out-2-1.given); wide_value = r.1 }
 
 pub put_item-requires-4 : goal.put_item-requires-4
 unfolding newest rows
 put_item-requires-4 c =
     let r = place_room plain (slots_of new_layout parameter_part) _ (length c.args.out.now) item.parameter_flags _ (entry_at parameter_part _ _ _ _ (ap (λ (s : ParameterShape). s.size) c.parameter_shape-s.ensures) c.requires).ends (ap (λ (s : ParameterShape). s.flags) c.parameter_shape-s.ensures) (wide_plain (slots_of new_layout parameter_part) new_sound.plain_parameter item.parameter_flags) in
-    record { wide_in_bounds = omega (arith, r.0, c.out.given, c.out-2-1.given, c.out-3-1.given); wide_value = r.1 }
+    record { wide_in_bounds = omega (arith, r.0, c.out-1.given, c.out-2-1.given, c.out-3-1.given); wide_value = r.1 }
 
 pub put_item-requires-5 : goal.put_item-requires-5
 unfolding newest rows
 put_item-requires-5 c =
     let r = place_room plain (slots_of new_layout parameter_part) _ (length c.args.out.now) item.text_start _ (entry_at parameter_part _ _ _ _ (ap (λ (s : ParameterShape). s.size) c.parameter_shape-s.ensures) c.requires).ends (ap (λ (s : ParameterShape). s.start) c.parameter_shape-s.ensures) (wide_plain (slots_of new_layout parameter_part) new_sound.plain_parameter item.text_start) in
-    record { wide_in_bounds = omega (arith, r.0, c.out.given, c.out-2-1.given, c.out-3-1.given, c.out-4-1.given); wide_value = r.1 }
+    record { wide_in_bounds = omega (arith, r.0, c.out-1.given, c.out-2-1.given, c.out-3-1.given, c.out-4-1.given); wide_value = r.1 }
 
 pub put_item-requires-6 : goal.put_item-requires-6
 unfolding newest rows
 put_item-requires-6 c =
     let r = place_room plain (slots_of new_layout parameter_part) _ (length c.args.out.now) item.first_sample _ (entry_at parameter_part _ _ _ _ (ap (λ (s : ParameterShape). s.size) c.parameter_shape-s.ensures) c.requires).ends (ap (λ (s : ParameterShape). s.first) c.parameter_shape-s.ensures) (wide_plain (slots_of new_layout parameter_part) new_sound.plain_parameter item.first_sample) in
-    record { wide_in_bounds = omega (arith, r.0, c.out.given, c.out-2-1.given, c.out-3-1.given, c.out-4-1.given, c.out-5-1.given); wide_value = r.1 }
+    record { wide_in_bounds = omega (arith, r.0, c.out-1.given, c.out-2-1.given, c.out-3-1.given, c.out-4-1.given, c.out-5-1.given); wide_value = r.1 }
 
 pub put_item-requires-7 : goal.put_item-requires-7
 unfolding newest rows
 put_item-requires-7 c =
     let r = place_room plain (slots_of new_layout parameter_part) _ (length c.args.out.now) item.sample_count _ (entry_at parameter_part _ _ _ _ (ap (λ (s : ParameterShape). s.size) c.parameter_shape-s.ensures) c.requires).ends (ap (λ (s : ParameterShape). s.count) c.parameter_shape-s.ensures) (wide_plain (slots_of new_layout parameter_part) new_sound.plain_parameter item.sample_count) in
-    record { wide_in_bounds = omega (arith, r.0, c.out.given, c.out-2-1.given, c.out-3-1.given, c.out-4-1.given, c.out-5-1.given, c.out-6-1.given); wide_value = r.1 }
+    record { wide_in_bounds = omega (arith, r.0, c.out-1.given, c.out-2-1.given, c.out-3-1.given, c.out-4-1.given, c.out-5-1.given, c.out-6-1.given); wide_value = r.1 }
 
 pub put_item-requires-8 : goal.put_item-requires-8
 unfolding newest rows
 put_item-requires-8 c =
     let r = place_room plain (slots_of new_layout parameter_part) _ (length c.args.out.now) item.value _ (entry_at parameter_part _ _ _ _ (ap (λ (s : ParameterShape). s.size) c.parameter_shape-s.ensures) c.requires).ends (ap (λ (s : ParameterShape). s.value) c.parameter_shape-s.ensures) (wide_plain (slots_of new_layout parameter_part) new_sound.plain_parameter item.value) in
-    record { wide_in_bounds = omega (arith, r.0, c.out.given, c.out-2-1.given, c.out-3-1.given, c.out-4-1.given, c.out-5-1.given, c.out-6-1.given, c.out-7-1.given); wide_value = r.1 }
+    record { wide_in_bounds = omega (arith, r.0, c.out-1.given, c.out-2-1.given, c.out-3-1.given, c.out-4-1.given, c.out-5-1.given, c.out-6-1.given, c.out-7-1.given); wide_value = r.1 }
 
 pub shape_of-out : goal.shape_of-out
-shape_of-out c = omega (arith, c.out-8-1.given, c.out-7-1.given, c.out-6-1.given, c.out-5-1.given, c.out-4-1.given, c.out-3-1.given, c.out-2-1.given, c.out.given)
+shape_of-out c = omega (arith, c.out-8-1.given, c.out-7-1.given, c.out-6-1.given, c.out-5-1.given, c.out-4-1.given, c.out-3-1.given, c.out-2-1.given, c.out-1.given)
 
 pub returns : goal.returns
 unfolding newest rows parameter_by

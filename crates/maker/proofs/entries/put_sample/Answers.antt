@@ -44,13 +44,13 @@ pub put_item-requires-2 : goal.put_item-requires-2
 unfolding newest rows
 put_item-requires-2 c =
     let r = place_room plain (slots_of new_layout sample_part) _ (length c.args.out.now) item.first_component _ (entry_at sample_part _ _ _ _ (ap (λ (s : SampleShape). s.size) c.sample_shape-s.ensures) c.requires).ends (ap (λ (s : SampleShape). s.first) c.sample_shape-s.ensures) (wide_plain (slots_of new_layout sample_part) new_sound.plain_sample item.first_component) in
-    record { wide_in_bounds = omega (arith, r.0, c.out.given); wide_value = r.1 }
+    record { wide_in_bounds = omega (arith, r.0, c.out-1.given); wide_value = r.1 }
 
 pub put_item-requires-3 : goal.put_item-requires-3
 unfolding newest rows
 put_item-requires-3 c =
     let r = place_room plain (slots_of new_layout sample_part) _ (length c.args.out.now) item.component_count _ (entry_at sample_part _ _ _ _ (ap (λ (s : SampleShape). s.size) c.sample_shape-s.ensures) c.requires).ends (ap (λ (s : SampleShape). s.count) c.sample_shape-s.ensures) (wide_plain (slots_of new_layout sample_part) new_sound.plain_sample item.component_count) in
-    record { wide_in_bounds = omega (arith, r.0, c.out.given, c.out-2-1.given); wide_value = r.1 }
+    record { wide_in_bounds = omega (arith, r.0, c.out-1.given, c.out-2-1.given); wide_value = r.1 }
 
 pub returns : goal.returns
 unfolding newest rows sample_by

@@ -32,31 +32,31 @@ pub put_item-requires-2 : goal.put_item-requires-2
 unfolding newest rows
 put_item-requires-2 c =
     let r = place_room plain (slots_of new_layout subframe_part) _ (length c.args.out.now) item.words _ c.requires (ap (λ (s : SubframeShape). s.words) c.subframe_shape-s.ensures) (new_sound.plain_subframe item.words (omega arith)) in
-    record { wide_in_bounds = omega (arith, r.0, c.out.given); wide_value = r.1 }
+    record { wide_in_bounds = omega (arith, r.0, c.out-1.given); wide_value = r.1 }
 
 pub put_item-requires-3 : goal.put_item-requires-3
 unfolding newest rows
 put_item-requires-3 c =
     let r = place_room plain (slots_of new_layout subframe_part) _ (length c.args.out.now) item.leading _ c.requires (ap (λ (s : SubframeShape). s.leading) c.subframe_shape-s.ensures) (new_sound.plain_subframe item.leading (omega arith)) in
-    record { wide_in_bounds = omega (arith, r.0, c.out.given, c.out-2-1.given); wide_value = r.1 }
+    record { wide_in_bounds = omega (arith, r.0, c.out-1.given, c.out-2-1.given); wide_value = r.1 }
 
 pub put_item-requires-4 : goal.put_item-requires-4
 unfolding newest rows
 put_item-requires-4 c =
     let r = place_room plain (slots_of new_layout subframe_part) _ (length c.args.out.now) item.trailing _ c.requires (ap (λ (s : SubframeShape). s.trailing) c.subframe_shape-s.ensures) (new_sound.plain_subframe item.trailing (omega arith)) in
-    record { wide_in_bounds = omega (arith, r.0, c.out.given, c.out-2-1.given, c.out-3-1.given); wide_value = r.1 }
+    record { wide_in_bounds = omega (arith, r.0, c.out-1.given, c.out-2-1.given, c.out-3-1.given); wide_value = r.1 }
 
 pub put_long-requires : goal.put_long-requires
 unfolding newest rows
 put_long-requires c =
     let r = place_room long (slots_of new_layout subframe_part) _ (length c.args.out.now) item.numerator _ c.requires (ap (λ (s : SubframeShape). s.numerator) c.subframe_shape-s.ensures) new_sound.long_numerator in
-    record { wide_in_bounds = omega (arith, r.0, c.out.given, c.out-2-1.given, c.out-3-1.given, c.out-4-1.given); wide_value = r.1 }
+    record { wide_in_bounds = omega (arith, r.0, c.out-1.given, c.out-2-1.given, c.out-3-1.given, c.out-4-1.given); wide_value = r.1 }
 
 pub put_item-requires-5 : goal.put_item-requires-5
 unfolding newest rows
 put_item-requires-5 c =
     let r = place_room plain (slots_of new_layout subframe_part) _ (length c.args.out.now) item.denominator _ c.requires (ap (λ (s : SubframeShape). s.denominator) c.subframe_shape-s.ensures) (new_sound.plain_subframe item.denominator (omega arith)) in
-    record { wide_in_bounds = omega (arith, r.0, c.out.given, c.out-2-1.given, c.out-3-1.given, c.out-4-1.given, c.out-5-1.given); wide_value = r.1 }
+    record { wide_in_bounds = omega (arith, r.0, c.out-1.given, c.out-2-1.given, c.out-3-1.given, c.out-4-1.given, c.out-5-1.given); wide_value = r.1 }
 
 pub returns : goal.returns
 unfolding newest rows subframe_values
