@@ -1,4 +1,4 @@
-/* The bench for programs in C, and for whatever links as C does. `rt staticlib ffi` proves and builds the archive,
+/* The bench for programs in C, and for whatever links as C does. `c/build` proves and builds the archive,
  * target/staticlib/libffi.a. It is for x86-64 Linux alone, and of the C library it needs memcpy and memset.
  *
  * Every call answers for every input, keeps nothing between calls, and asks for no memory. What it answers and what it

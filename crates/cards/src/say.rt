@@ -1,13 +1,13 @@
 // What the program writes.
-use libc::STDOUT_FILENO;
 use listed::listing::put_refused;
 
-pub fn text(t: &[u8]) {
-    io::write_all(STDOUT_FILENO, t);
+// What can't be written is lost.
+pub fn text(rt: &HostRuntime, t: &[u8]) {
+    let _ = rt.write_all(t);
 }
 
-pub fn refused(number: u32, line: u32) {
+pub fn refused(rt: &HostRuntime, number: u32, line: u32) {
     let mut out = [0u8; 50];
     let n = put_refused(&mut out, number, line);
-    text(&out[..n]);
+    text(rt, &out[..n]);
 }

@@ -18,7 +18,14 @@ use table::check::opening;
 use table::reason::{Reason, reason_number};
 
 // The rows of each parameter in the frame at a position.
-fn rows(t: &[u8], o: Opened, words: &[u16], position: u32, before: &[usize; SUBFRAMES])
+fn rows(
+    rt: &HostRuntime,
+    t: &[u8],
+    o: Opened,
+    words: &[u16],
+    position: u32,
+    before: &[usize; SUBFRAMES],
+)
     requires ruled_by { RuledBy t.now o }
     requires bases_of { BasesOf t.now before.now }
     requires words_len { length words.now ≡ frame_words (view t.now) }
@@ -28,20 +35,20 @@ fn rows(t: &[u8], o: Opened, words: &[u16], position: u32, before: &[usize; SUBF
     let mut i = 0;
     while i < parameters {
         let n = put_card_rows(t, o, words, position, i, before, &mut out);
-        text(&out[..n]);
+        text(rt, &out[..n]);
         i += 1;
     }
 }
 
-fn heading() {
+fn heading(rt: &HostRuntime) {
     let mut out = [0u8; 37];
     let n = put_card_heading(&mut out);
-    text(&out[..n]);
+    text(rt, &out[..n]);
 }
 
 // The frame at the first position, whose words are there, and those behind it: each is looked for behind the last bit of the
 // one before, until there is none.
-fn frames(t: &[u8], o: Opened, stream: &[u8], first: u32, words: &mut [u16])
+fn frames(rt: &HostRuntime, t: &[u8], o: Opened, stream: &[u8], first: u32, words: &mut [u16])
     requires ruled_by { (RuledBy t.now o) × (margins_told t.now ≡ true) × (length stream.now ≤ longest_stream) }
     requires t_bound { first + frame_bits (view t.now) ≤ 8 * length stream.now }
     requires t_in_bounds { frame_words (view t.now) ≤ length words.old }
@@ -52,7 +59,7 @@ fn frames(t: &[u8], o: Opened, stream: &[u8], first: u32, words: &mut [u16])
     let bits = span.bits as u32;
     let mut position = first;
     loop {
-        rows(t, o, &words[..count], position, &before);
+        rows(rt, t, o, &words[..count], position, &before);
         let found = card_from(t, stream, position + bits, words);
         let Carded::Found {
             position: next,
@@ -66,15 +73,15 @@ fn frames(t: &[u8], o: Opened, stream: &[u8], first: u32, words: &mut [u16])
 }
 
 // What is no table is refused, 18, and a card without a frame: 27, 26, 38 or 25.
-pub fn show(t: &[u8], stream: &[u8], words: &mut [u16]) {
+pub fn show(rt: &HostRuntime, t: &[u8], stream: &[u8], words: &mut [u16]) {
     let opened = opening(t);
     let Opening::Table(o) = opened else {
-        return refused(reason_number(Reason::NoTable), 0);
+        return refused(rt, reason_number(Reason::NoTable), 0);
     };
     let found = card(t, stream, words);
     let Carded::Found { position, count: _ } = found else {
-        return refused(card_number(found), 0);
+        return refused(rt, card_number(found), 0);
     };
-    heading();
-    frames(t, o, stream, position, words);
+    heading(rt);
+    frames(rt, t, o, stream, position, words);
 }

@@ -34,29 +34,21 @@ fn carded_out(carded: Carded) -> OrbCarded
 }
 
 // The first frame of all: its words at the front of the lent ones; no word is changed where there is none.
-#[unsafe(no_mangle)]
-pub extern "C" fn orb_card(table: &[u8], stream: &[u8], words: &mut [u16]) -> OrbCarded
+pub fn orb_card(table: &[u8], stream: &[u8], words: &mut [u16]) -> OrbCarded
     ensures { CardsOut table.now stream.now 0 words.old result words.new }
 {
     carded_out(card(table, stream, words))
 }
 
 // The first frame at or behind bit `from`.
-#[unsafe(no_mangle)]
-pub extern "C" fn orb_card_from(
-    table: &[u8],
-    stream: &[u8],
-    from: u32,
-    words: &mut [u16],
-) -> OrbCarded
+pub fn orb_card_from(table: &[u8], stream: &[u8], from: u32, words: &mut [u16]) -> OrbCarded
     ensures { CardsOut table.now stream.now from words.old result words.new }
 {
     carded_out(card_from(table, stream, from, words))
 }
 
 // How many bits a frame has, its margins too; 0 where the bytes are no table, or one that does not tell its margins.
-#[unsafe(no_mangle)]
-pub extern "C" fn orb_frame_bits(table: &[u8]) -> u32
+pub fn orb_frame_bits(table: &[u8]) -> u32
     ensures { FrameBitsOut table.now result }
 {
     frame_bits(table)

@@ -39,30 +39,21 @@ fn compared_out(compared: Compared) -> OrbCompared
 }
 
 // One sample, or why there is none.
-#[unsafe(no_mangle)]
-pub extern "C" fn orb_read(table: &[u8], words: &[u16], parameter: u32, sample: u32) -> Outcome
+pub fn orb_read(table: &[u8], words: &[u16], parameter: u32, sample: u32) -> Outcome
     ensures { ReadsOut table.now words.now parameter sample result }
 {
     outcome_of(read(table, words, parameter, sample))
 }
 
 // A raw value placed; no word is changed where it is refused.
-#[unsafe(no_mangle)]
-pub extern "C" fn orb_place(
-    table: &[u8],
-    words: &mut [u16],
-    parameter: u32,
-    sample: u32,
-    value: u64,
-) -> u32
+pub fn orb_place(table: &[u8], words: &mut [u16], parameter: u32, sample: u32, value: u64) -> u32
     ensures { PlacesOut table.now words.old parameter sample value result words.new }
 {
     place_number(place(table, words, parameter, sample, value))
 }
 
 // The frame against its identifiers.
-#[unsafe(no_mangle)]
-pub extern "C" fn orb_compare(table: &[u8], words: &[u16]) -> OrbCompared
+pub fn orb_compare(table: &[u8], words: &[u16]) -> OrbCompared
     ensures { ComparesOut table.now words.now result }
 {
     compared_out(compare(table, words))

@@ -30,8 +30,7 @@ fn made_out(made: Made) -> OrbMade
 }
 
 // The sheet's table at the front of the lent bytes, or why there is none.
-#[unsafe(no_mangle)]
-pub extern "C" fn orb_make(sheet: &[u8], table: &mut [u8]) -> OrbMade
+pub fn orb_make(sheet: &[u8], table: &mut [u8]) -> OrbMade
     ensures { MakesOut sheet.now table.old result table.new }
 {
     made_out(make(sheet, table))

@@ -51,16 +51,14 @@ fn name_out(t: &[u8], o: Opened, asked: Asked) -> OrbName
 }
 
 // 0 or 18.
-#[unsafe(no_mangle)]
-pub extern "C" fn orb_check(table: &[u8]) -> u32
+pub fn orb_check(table: &[u8]) -> u32
     ensures { ChecksOut table.now result }
 {
     check_number(check(table))
 }
 
 // The name of the parameter with this number, counted from 1.
-#[unsafe(no_mangle)]
-pub extern "C" fn orb_name_of(table: &[u8], parameter: u32) -> OrbName
+pub fn orb_name_of(table: &[u8], parameter: u32) -> OrbName
     ensures { NamesOut table.now parameter result }
 {
     let opened = opening(table);
@@ -71,8 +69,7 @@ pub extern "C" fn orb_name_of(table: &[u8], parameter: u32) -> OrbName
 }
 
 // The name of the parameter with this mnemonic.
-#[unsafe(no_mangle)]
-pub extern "C" fn orb_name_by(table: &[u8], mnemonic: &[u8]) -> OrbName
+pub fn orb_name_by(table: &[u8], mnemonic: &[u8]) -> OrbName
     ensures { NamesByOut table.now mnemonic.now result }
 {
     let opened = opening(table);

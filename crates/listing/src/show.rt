@@ -16,7 +16,7 @@ use table::check::opening;
 use table::reason::{Reason, reason_number};
 
 // The rows of each parameter.
-fn rows(t: &[u8], o: Opened, words: &[u16], before: &[usize; SUBFRAMES])
+fn rows(rt: &HostRuntime, t: &[u8], o: Opened, words: &[u16], before: &[usize; SUBFRAMES])
     requires ruled_by { RuledBy t.now o }
     requires bases_of { BasesOf t.now before.now }
     requires words_len { length words.now ≡ frame_words (view t.now) }
@@ -26,39 +26,39 @@ fn rows(t: &[u8], o: Opened, words: &[u16], before: &[usize; SUBFRAMES])
     let mut i = 0;
     while i < parameters {
         let n = put_parameter(t, o, words, i, before, &mut out);
-        text(&out[..n]);
+        text(rt, &out[..n]);
         i += 1;
     }
 }
 
-fn heading() {
+fn heading(rt: &HostRuntime) {
     let mut out = [0u8; 28];
     let n = put_heading(&mut out);
-    text(&out[..n]);
+    text(rt, &out[..n]);
 }
 
 // 18, 19 and 20, or the heading and the rows.
-fn fitted(t: &[u8], words: &[u16]) {
+fn fitted(rt: &HostRuntime, t: &[u8], words: &[u16]) {
     let opened = opening(t);
     let Opening::Table(o) = opened else {
-        return refused(reason_number(Reason::NoTable), 0);
+        return refused(rt, reason_number(Reason::NoTable), 0);
     };
     let before = bases_of(t, o);
     let fit = fit_of(t, o, words, &before);
     match fit {
         Fit::Fits => {
-            heading();
-            rows(t, o, words, &before);
+            heading(rt);
+            rows(rt, t, o, words, &before);
         }
-        Fit::Refused(_) => refused(fit_number(fit), 0),
+        Fit::Refused(_) => refused(rt, fit_number(fit), 0),
     }
 }
 
 // An odd byte, or more words than are lent, is 19.
-pub fn show(t: &[u8], frame: &[u8], words: &mut [u16]) {
+pub fn show(rt: &HostRuntime, t: &[u8], frame: &[u8], words: &mut [u16]) {
     let number = words_of(frame, words);
     if number != 0 {
-        return refused(number, 0);
+        return refused(rt, number, 0);
     }
-    fitted(t, &words[..frame.len() / 2]);
+    fitted(rt, t, &words[..frame.len() / 2]);
 }

@@ -12,65 +12,65 @@ use text::part::{between, past_first, up_to};
 use text::refusal::refusal_number;
 
 // What becomes of a sheet, and whether a lent byte that must stay has changed.
-fn answered(sheet: &[u8], lent: &mut [u8]) {
+fn answered(rt: &HostRuntime, sheet: &[u8], lent: &mut [u8]) {
     fill(lent);
     match make(sheet, lent) {
         Made::Length(n) => {
-            text(b"made ");
-            number(n as u64);
-            kept(lent, n);
+            text(rt, b"made ");
+            number(rt, n as u64);
+            kept(rt, lent, n);
         }
         Made::Refused { refusal, line } => {
-            refused(refusal_number(refusal), line as u64);
-            kept(lent, 0);
+            refused(rt, refusal_number(refusal), line as u64);
+            kept(rt, lent, 0);
         }
     }
 }
 
 // With the first `asked` bytes of the table lent, or all where it has no more.
-fn lent_and_answered(sheet: &[u8], table: &mut [u8], asked: usize) {
+fn lent_and_answered(rt: &HostRuntime, sheet: &[u8], table: &mut [u8], asked: usize) {
     if asked < table.len() {
-        answered(sheet, &mut table[..asked]);
+        answered(rt, sheet, &mut table[..asked]);
         return;
     }
-    answered(sheet, table);
+    answered(rt, sheet, table);
 }
 
 // The number that the line goes on with; 0 where there is none, which shows in the output.
-fn lent_of(line: &[u8]) -> usize {
+fn lent_of(rt: &HostRuntime, line: &[u8]) -> usize {
     match integer(up_to(line, 32), 6, 0, 200000) {
         Number::Value(n) => n as usize,
         Number::Refused(_) => {
-            text(b"no lent length ");
+            text(rt, b"no lent length ");
             0
         }
     }
 }
 
-fn case(line: &[u8], sheet: &mut [u8], table: &mut [u8]) {
+fn case(rt: &HostRuntime, line: &[u8], sheet: &mut [u8], table: &mut [u8]) {
     let file = up_to(line, 32);
-    let n = load(file, sheet);
-    let asked = lent_of(past_first(line, 32));
-    text(file);
-    text(b": ");
-    lent_and_answered(&sheet[..n], table, asked);
-    text(b"\n");
+    let n = load(rt, file, sheet);
+    let asked = lent_of(rt, past_first(line, 32));
+    text(rt, file);
+    text(rt, b": ");
+    lent_and_answered(rt, &sheet[..n], table, asked);
+    text(rt, b"\n");
 }
 
 // A line that the cursor refuses ends the list, and shows in the output.
-pub fn cases(list: &[u8], sheet: &mut [u8], table: &mut [u8])
+pub fn cases(rt: &HostRuntime, list: &[u8], sheet: &mut [u8], table: &mut [u8])
     requires { length list.now ≤ 65536 }
 {
     let mut c = Cursor { at: 0, number: 0 };
     while c.at < list.len() {
         match c.next(list) {
             Found::Line { start, end, next } => {
-                case(between(list, start, end), sheet, table);
+                case(rt, between(list, start, end), sheet, table);
                 c = next;
             }
             Found::Refused(r) => {
-                text(b"list: ");
-                refused(refusal_number(r), 0);
+                text(rt, b"list: ");
+                refused(rt, refusal_number(r), 0);
                 return;
             }
         }

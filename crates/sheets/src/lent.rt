@@ -10,11 +10,11 @@ pub fn fill(lent: &mut [u8]) {
 }
 
 // Says so where one of the bytes from index `from` on is not 165.
-pub fn kept(lent: &[u8], from: usize) {
+pub fn kept(rt: &HostRuntime, lent: &[u8], from: usize) {
     let mut i = from;
     while i < lent.len() {
         if lent[i] != 165 {
-            text(b" CHANGED");
+            text(rt, b" CHANGED");
             return;
         }
         i += 1;

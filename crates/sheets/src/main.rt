@@ -1,6 +1,7 @@
 // Judges the stored sheets, one line each: FILE: NUMBER at LINE, or FILE: made LENGTH. CHANGED follows where a lent byte
 // that must stay did not. docs/STORED-SHEETS.md says what the set is, and how a case is added.
 #![tactic(auto)]
+
 mod cases;
 mod compare;
 mod lent;
@@ -12,11 +13,11 @@ use compare::compared;
 use load::load;
 
 // 65,538: a sheet of 65,537 bytes is seen to be too long.
-fn main() {
+fn main(rt: HostRuntime) {
     let mut list = [0u8; 65536];
     let mut sheet = [0u8; 65538];
     let mut table = [0u8; 200000];
-    let n = load(b"list", &mut list);
-    cases(&list[..n], &mut sheet, &mut table);
-    compared(&mut sheet, &mut table);
+    let n = load(&rt, b"list", &mut list);
+    cases(&rt, &list[..n], &mut sheet, &mut table);
+    compared(&rt, &mut sheet, &mut table);
 }

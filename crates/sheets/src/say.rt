@@ -1,17 +1,17 @@
 // Bytes and numbers, written.
-use libc::STDOUT_FILENO;
 
-pub fn text(s: &[u8]) {
-    io::write_all(STDOUT_FILENO, s);
+// What can't be written is lost.
+pub fn text(rt: &HostRuntime, s: &[u8]) {
+    let _ = rt.write_all(s);
 }
 
-pub fn number(n: u64) {
-    io::print_decimal(STDOUT_FILENO, n);
+pub fn number(rt: &HostRuntime, n: u64) {
+    let _ = print!(rt; "{n}");
 }
 
 // A refusal's number, and the line or subframe that it names.
-pub fn refused(n: u32, at: u64) {
-    number(n as u64);
-    text(b" at ");
-    number(at);
+pub fn refused(rt: &HostRuntime, n: u32, at: u64) {
+    number(rt, n as u64);
+    text(rt, b" at ");
+    number(rt, at);
 }

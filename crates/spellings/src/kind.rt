@@ -11,94 +11,94 @@ use spell::truths::{truth, truth_or_empty};
 use text::keyword::{Keyword, keyword_of};
 use text::refusal::Judged;
 
-fn keyword_text(k: Keyword) {
+fn keyword_text(rt: &HostRuntime, k: Keyword) {
     match k {
-        Keyword::Header => text(b"header"),
-        Keyword::Record => text(b"record"),
-        Keyword::Nothing => text(b"none"),
-        Keyword::Parameter => text(b"parameter"),
-        Keyword::Other => text(b"no keyword"),
+        Keyword::Header => text(rt, b"header"),
+        Keyword::Record => text(rt, b"record"),
+        Keyword::Nothing => text(rt, b"none"),
+        Keyword::Parameter => text(rt, b"parameter"),
+        Keyword::Other => text(rt, b"no keyword"),
     }
 }
 
-fn judged_text(j: Judged) {
+fn judged_text(rt: &HostRuntime, j: Judged) {
     match j {
-        Judged::Passes => text(b"passes"),
-        Judged::Refused(r) => refused(r),
+        Judged::Passes => text(rt, b"passes"),
+        Judged::Refused(r) => refused(rt, r),
     }
 }
 
-fn number_text(n: Number) {
+fn number_text(rt: &HostRuntime, n: Number) {
     match n {
-        Number::Value(v) => number(v),
-        Number::Refused(r) => refused(r),
+        Number::Value(v) => number(rt, v),
+        Number::Refused(r) => refused(rt, r),
     }
 }
 
-fn truth_text(t: Truth) {
+fn truth_text(rt: &HostRuntime, t: Truth) {
     match t {
         Truth::Says(v) => {
             if v {
-                text(b"true");
+                text(rt, b"true");
                 return;
             }
-            text(b"false");
+            text(rt, b"false");
         }
-        Truth::Refused(r) => refused(r),
+        Truth::Refused(r) => refused(rt, r),
     }
 }
 
-fn bits_text(b: Bits) {
+fn bits_text(rt: &HostRuntime, b: Bits) {
     match b {
         Bits::Range { low, high } => {
-            number(low);
-            text(b" to ");
-            number(high);
+            number(rt, low);
+            text(rt, b" to ");
+            number(rt, high);
         }
-        Bits::Refused(r) => refused(r),
+        Bits::Refused(r) => refused(rt, r),
     }
 }
 
-fn seconds_text(s: Seconds) {
+fn seconds_text(rt: &HostRuntime, s: Seconds) {
     match s {
         Seconds::Value {
             numerator,
             denominator,
         } => {
-            number(numerator);
-            text(b"/");
-            number(denominator);
+            number(rt, numerator);
+            text(rt, b"/");
+            number(rt, denominator);
         }
-        Seconds::Refused(r) => refused(r),
+        Seconds::Refused(r) => refused(rt, r),
     }
 }
 
 // What a field says by the kind of that number. Declared are 1 subframe of 4 words of 12 bits, as on the wall.
-pub fn answer_text(kind: u64, f: &[u8]) {
+pub fn answer_text(rt: &HostRuntime, kind: u64, f: &[u8]) {
     match kind {
-        0 => keyword_text(keyword_of(f)),
-        1 => number_text(integer(f, 6, 1, WORDS as u64)),
-        2 => number_text(integer(f, 6, 1, SUBFRAMES as u64)),
-        3 => number_text(integer(f, 6, 1, BITS as u64)),
-        4 => number_text(margin(f, MARGIN as u64, BLANK_MARGIN as u64)),
-        5 => number_text(integer(f, 10, 0, VALUE as u64)),
-        6 => number_text(declared(f, 1)),
-        7 => number_text(declared(f, 4)),
-        8 => number_text(integer(f, 6, 0, 999999)),
-        9 => bits_text(component_bits(f, 12)),
-        10 => judged_text(source_bits(f)),
-        11 => number_text(label(f)),
-        12 => number_text(decimal(f, 3)),
-        13 => judged_text(delay(f)),
-        14 => seconds_text(seconds(f)),
-        15 => truth_text(truth(f)),
-        16 => judged_text(truth_or_empty(f)),
-        17 => judged_text(text_field(f, 200, false)),
-        18 => judged_text(text_field(f, 200, true)),
-        19 => judged_text(text_field(f, TEXT, true)),
-        20 => judged_text(text_field(f, TEXT, false)),
-        21 => judged_text(version(f)),
-        22 => judged_text(must_be_empty(f)),
-        _ => text(b"no kind"),
+        0 => keyword_text(rt, keyword_of(f)),
+        1 => number_text(rt, integer(f, 6, 1, WORDS as u64)),
+        2 => number_text(rt, integer(f, 6, 1, SUBFRAMES as u64)),
+        3 => number_text(rt, integer(f, 6, 1, BITS as u64)),
+        4 => number_text(rt, margin(f, MARGIN as u64, BLANK_MARGIN as u64)),
+        5 => number_text(rt, integer(f, 10, 0, VALUE as u64)),
+        6 => number_text(rt, declared(f, 1)),
+        7 => number_text(rt, declared(f, 4)),
+        8 => number_text(rt, integer(f, 6, 0, 999999)),
+        9 => bits_text(rt, component_bits(f, 12)),
+        10 => judged_text(rt, source_bits(f)),
+        11 => number_text(rt, label(f)),
+        12 => number_text(rt, decimal(f, 3)),
+        13 => judged_text(rt, delay(f)),
+        14 => seconds_text(rt, seconds(f)),
+        15 => truth_text(rt, truth(f)),
+        16 => judged_text(rt, truth_or_empty(f)),
+        17 => judged_text(rt, text_field(f, 200, false)),
+        18 => judged_text(rt, text_field(f, 200, true)),
+        19 => judged_text(rt, text_field(f, TEXT, true)),
+        20 => judged_text(rt, text_field(f, TEXT, false)),
+        21 => judged_text(rt, version(f)),
+        22 => judged_text(rt, must_be_empty(f)),
+        _ => text(rt, b"no kind"),
     }
 }

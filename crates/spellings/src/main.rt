@@ -2,6 +2,7 @@
 // They stand in data/cases, since each literal would cost the check a proof: a line KIND SHOWN|FIELD, the kind by its number.
 // What is shown for a field that is long or has blanks round it is a label in angle brackets.
 #![tactic(auto)]
+
 mod kind;
 mod load;
 mod say;
@@ -10,8 +11,8 @@ mod walk;
 use load::load;
 use walk::cases;
 
-fn main() {
+fn main(rt: HostRuntime) {
     let mut list = [0u8; 65536];
-    let n = load(b"cases", &mut list);
-    cases(&list[..n]);
+    let n = load(&rt, b"cases", &mut list);
+    cases(&rt, &list[..n]);
 }

@@ -1,16 +1,16 @@
 // Bytes, numbers and refusals, written.
-use libc::STDOUT_FILENO;
 use text::refusal::{Refusal, refusal_number};
 
-pub fn text(s: &[u8]) {
-    io::write_all(STDOUT_FILENO, s);
+// What can't be written is lost.
+pub fn text(rt: &HostRuntime, s: &[u8]) {
+    let _ = rt.write_all(s);
 }
 
-pub fn number(n: u64) {
-    io::print_decimal(STDOUT_FILENO, n);
+pub fn number(rt: &HostRuntime, n: u64) {
+    let _ = print!(rt; "{n}");
 }
 
-pub fn refused(r: Refusal) {
-    text(b"refused ");
-    number(refusal_number(r) as u64);
+pub fn refused(rt: &HostRuntime, r: Refusal) {
+    text(rt, b"refused ");
+    number(rt, refusal_number(r) as u64);
 }

@@ -24,15 +24,15 @@ fn answer(kind: u8, t: &[u8], stream: &[u8], from: u32, lent: &mut [u16]) -> Car
     card_from(t, stream, from, lent)
 }
 
-fn card_line(kind: u8, t: &[u8], stream: &[u8], from: u32, lent: &mut [u16]) {
+fn card_line(rt: &HostRuntime, kind: u8, t: &[u8], stream: &[u8], from: u32, lent: &mut [u16]) {
     fill(lent);
     let found = answer(kind, t, stream, from, lent);
     let number = card_number(found);
     let sum = of_words(lent);
     let Carded::Found { position, count } = found else {
-        return five(kind as u64, number, 0, 0, sum);
+        return five(rt, kind as u64, number, 0, 0, sum);
     };
-    five(kind as u64, number, position as u64, count as u64, sum);
+    five(rt, kind as u64, number, position as u64, count as u64, sum);
 }
 
 // The bit to begin at, which kind 8 does not say.
@@ -46,7 +46,7 @@ fn from_at(kind: u8, s: &[u8], c: Cursor) -> Four
     c.four(s)
 }
 
-pub fn card_case(kind: u8, s: &[u8], c: Cursor, words: &mut [u16]) -> Cursor
+pub fn card_case(rt: &HostRuntime, kind: u8, s: &[u8], c: Cursor, words: &mut [u16]) -> Cursor
     requires inside { Inside s.now c }
     requires in_bounds { 40000 ≤ length words.old }
     ensures { Onward s.now c result }
@@ -64,6 +64,7 @@ pub fn card_case(kind: u8, s: &[u8], c: Cursor, words: &mut [u16]) -> Cursor
         return next;
     }
     card_line(
+        rt,
         kind,
         between(s, table.start, table.end),
         between(s, stream.start, stream.end),

@@ -52,17 +52,17 @@ pub fn first(words: &[u16], n: usize) -> &[u16]
     &words[..n]
 }
 
-fn read_line(t: &[u8], words: &[u16], parameter: u32, sample: u32) {
+fn read_line(rt: &HostRuntime, t: &[u8], words: &[u16], parameter: u32, sample: u32) {
     let answer = read(t, words, parameter, sample);
     let number = read_number(answer);
     match answer {
-        Reading::Sample { raw, width, value } => reading(number, 1, width, raw, value),
-        Reading::OverlapDiffers { raw, width, value } => reading(number, 2, width, raw, value),
-        Reading::Refused(_) => reading(number, 0, 0, 0, 0),
+        Reading::Sample { raw, width, value } => reading(rt, number, 1, width, raw, value),
+        Reading::OverlapDiffers { raw, width, value } => reading(rt, number, 2, width, raw, value),
+        Reading::Refused(_) => reading(rt, number, 0, 0, 0, 0),
     }
 }
 
-pub fn read_case(s: &[u8], c: Cursor, words: &mut [u16]) -> Cursor
+pub fn read_case(rt: &HostRuntime, s: &[u8], c: Cursor, words: &mut [u16]) -> Cursor
     requires inside { Inside s.now c }
     requires in_bounds { 40000 ≤ length words.old }
     ensures { Onward s.now c result }
@@ -76,6 +76,7 @@ pub fn read_case(s: &[u8], c: Cursor, words: &mut [u16]) -> Cursor
     }
     let n = filled(between(s, lent.from, lent.to), words);
     read_line(
+        rt,
         between(s, lent.start, lent.end),
         first(words, n),
         p.value,
@@ -84,12 +85,19 @@ pub fn read_case(s: &[u8], c: Cursor, words: &mut [u16]) -> Cursor
     next
 }
 
-fn place_line(t: &[u8], words: &mut [u16], parameter: u32, sample: u32, value: u64) {
+fn place_line(
+    rt: &HostRuntime,
+    t: &[u8],
+    words: &mut [u16],
+    parameter: u32,
+    sample: u32,
+    value: u64,
+) {
     let number = place_number(place(t, words, parameter, sample, value));
-    three(4, number, of_words(words));
+    three(rt, 4, number, of_words(words));
 }
 
-pub fn place_case(s: &[u8], c: Cursor, words: &mut [u16]) -> Cursor
+pub fn place_case(rt: &HostRuntime, s: &[u8], c: Cursor, words: &mut [u16]) -> Cursor
     requires inside { Inside s.now c }
     requires in_bounds { 40000 ≤ length words.old }
     ensures { Onward s.now c result }
@@ -104,6 +112,7 @@ pub fn place_case(s: &[u8], c: Cursor, words: &mut [u16]) -> Cursor
     }
     let n = filled(between(s, lent.from, lent.to), words);
     place_line(
+        rt,
         between(s, lent.start, lent.end),
         &mut words[..n],
         p.value,
@@ -122,12 +131,12 @@ fn subframe_of(answer: Compared) -> u64 {
     }
 }
 
-fn compare_line(t: &[u8], words: &[u16]) {
+fn compare_line(rt: &HostRuntime, t: &[u8], words: &[u16]) {
     let answer = compare(t, words);
-    three(5, compare_number(answer), subframe_of(answer));
+    three(rt, 5, compare_number(answer), subframe_of(answer));
 }
 
-pub fn compare_case(s: &[u8], c: Cursor, words: &mut [u16]) -> Cursor
+pub fn compare_case(rt: &HostRuntime, s: &[u8], c: Cursor, words: &mut [u16]) -> Cursor
     requires inside { Inside s.now c }
     requires in_bounds { 40000 ≤ length words.old }
     ensures { Onward s.now c result }
@@ -138,6 +147,6 @@ pub fn compare_case(s: &[u8], c: Cursor, words: &mut [u16]) -> Cursor
         return next;
     }
     let n = filled(between(s, lent.from, lent.to), words);
-    compare_line(between(s, lent.start, lent.end), first(words, n));
+    compare_line(rt, between(s, lent.start, lent.end), first(words, n));
     next
 }

@@ -25,13 +25,13 @@ fn at_of(made: Made) -> u64 {
     }
 }
 
-fn made_line(sheet: &[u8], lent: &mut [u8]) {
+fn made_line(rt: &HostRuntime, sheet: &[u8], lent: &mut [u8]) {
     fill(lent);
     let made = make(sheet, lent);
-    four(1, make_number(made), at_of(made), of_bytes(lent));
+    four(rt, 1, make_number(made), at_of(made), of_bytes(lent));
 }
 
-pub fn make_case(s: &[u8], c: Cursor, table: &mut [u8]) -> Cursor
+pub fn make_case(rt: &HostRuntime, s: &[u8], c: Cursor, table: &mut [u8]) -> Cursor
     requires inside { Inside s.now c }
     requires in_bounds { 200000 ≤ length table.old }
     ensures { Onward s.now c result }
@@ -46,6 +46,6 @@ pub fn make_case(s: &[u8], c: Cursor, table: &mut [u8]) -> Cursor
     if next.cut {
         return next;
     }
-    made_line(between(s, sheet.start, sheet.end), &mut table[..n]);
+    made_line(rt, between(s, sheet.start, sheet.end), &mut table[..n]);
     next
 }

@@ -89,7 +89,14 @@ fn of_results(results: [Outcome; SLOTS], m: usize) -> u64
     h
 }
 
-fn page_line(t: &[u8], words: &[u16], requests: [Request; KEPT], n: usize, m: usize)
+fn page_line(
+    rt: &HostRuntime,
+    t: &[u8],
+    words: &[u16],
+    requests: [Request; KEPT],
+    n: usize,
+    m: usize,
+)
     requires { Within n m }
 {
     let untouched = [Outcome {
@@ -102,10 +109,16 @@ fn page_line(t: &[u8], words: &[u16], requests: [Request; KEPT], n: usize, m: us
     let shown = page_here(t, words, requests, n, untouched, m);
     let paged = shown.paged;
     let results = shown.results;
-    four(9, paged.number, paged.count as u64, of_results(results, m));
+    four(
+        rt,
+        9,
+        paged.number,
+        paged.count as u64,
+        of_results(results, m),
+    );
 }
 
-pub fn page_case(s: &[u8], c: Cursor, words: &mut [u16]) -> Cursor
+pub fn page_case(rt: &HostRuntime, s: &[u8], c: Cursor, words: &mut [u16]) -> Cursor
     requires inside { Inside s.now c }
     requires in_bounds { 40000 ≤ length words.old }
     ensures { Onward s.now c result }
@@ -125,6 +138,7 @@ pub fn page_case(s: &[u8], c: Cursor, words: &mut [u16]) -> Cursor
     let list = requests.list;
     let count = filled(between(s, lent.from, lent.to), words);
     page_line(
+        rt,
         between(s, lent.start, lent.end),
         first(words, count),
         list,

@@ -12,7 +12,7 @@ use table::check::opening;
 use table::naming::{Asked, numbered, with_mnemonic};
 use text::part::between;
 
-pub fn check_case(s: &[u8], c: Cursor) -> Cursor
+pub fn check_case(rt: &HostRuntime, s: &[u8], c: Cursor) -> Cursor
     requires { Inside s.now c }
     ensures { Onward s.now c result }
 {
@@ -21,7 +21,7 @@ pub fn check_case(s: &[u8], c: Cursor) -> Cursor
     if next.cut {
         return next;
     }
-    two(2, check_number(check(between(s, t.start, t.end))));
+    two(rt, 2, check_number(check(between(s, t.start, t.end))));
     next
 }
 
@@ -50,10 +50,11 @@ fn start_of(t: &[u8], parameter: u32) -> usize
     }
 }
 
-fn name_line(t: &[u8], parameter: u32) {
+fn name_line(rt: &HostRuntime, t: &[u8], parameter: u32) {
     let start = start_of(t, parameter);
     let found = name(t, parameter);
     four(
+        rt,
         6,
         name_number(t, parameter),
         start as u64,
@@ -61,7 +62,7 @@ fn name_line(t: &[u8], parameter: u32) {
     );
 }
 
-pub fn name_case(s: &[u8], c: Cursor) -> Cursor
+pub fn name_case(rt: &HostRuntime, s: &[u8], c: Cursor) -> Cursor
     requires { Inside s.now c }
     ensures { Onward s.now c result }
 {
@@ -71,7 +72,7 @@ pub fn name_case(s: &[u8], c: Cursor) -> Cursor
     if next.cut {
         return next;
     }
-    name_line(between(s, t.start, t.end), p.value);
+    name_line(rt, between(s, t.start, t.end), p.value);
     next
 }
 
@@ -85,10 +86,11 @@ fn start_by(t: &[u8], mnemonic: &[u8]) -> usize
     }
 }
 
-fn mnemonic_line(t: &[u8], mnemonic: &[u8]) {
+fn mnemonic_line(rt: &HostRuntime, t: &[u8], mnemonic: &[u8]) {
     let start = start_by(t, mnemonic);
     let found = name_by(t, mnemonic);
     four(
+        rt,
         7,
         name_by_number(t, mnemonic),
         start as u64,
@@ -96,7 +98,7 @@ fn mnemonic_line(t: &[u8], mnemonic: &[u8]) {
     );
 }
 
-pub fn mnemonic_case(s: &[u8], c: Cursor) -> Cursor
+pub fn mnemonic_case(rt: &HostRuntime, s: &[u8], c: Cursor) -> Cursor
     requires { Inside s.now c }
     ensures { Onward s.now c result }
 {
@@ -106,6 +108,6 @@ pub fn mnemonic_case(s: &[u8], c: Cursor) -> Cursor
     if next.cut {
         return next;
     }
-    mnemonic_line(between(s, t.start, t.end), between(s, m.start, m.end));
+    mnemonic_line(rt, between(s, t.start, t.end), between(s, m.start, m.end));
     next
 }
