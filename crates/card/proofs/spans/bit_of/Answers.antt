@@ -3,28 +3,24 @@ use Prim.Native.Nat.{◌-◌, ◌≤◌}
 use native.Mathlib.Nat.{mul-le-mul}
 use native.Mathlib.Omega.{arith}
 use Rattle.model.specs.Forms.{sheet_limits}
-use Rattle.card.proofs.spans.bit_of.Statement.{statement}
-use Rattle.card.proofs.spans.bit_of.Tie as tie
+use Rattle.card.proofs.spans.bit_of.Goals as goal
 
-mul-result : tie.Need-overflow-mul-result
-mul-result c =
+pub overflow_mul-result : goal.overflow_mul-result
+overflow_mul-result c =
     let w : c.args.w ≤ sheet_limits.words - 1 = omega (arith, c.requires) in
     record { fits = omega (arith, mul-le-mul w c.requires.2) }
 
-add-result : tie.Need-overflow-add-result
-add-result c =
+pub overflow_add-result : goal.overflow_add-result
+overflow_add-result c =
     let w : c.args.w ≤ sheet_limits.words - 1 = omega (arith, c.requires) in
     record { fits = omega (arith, mul-le-mul w c.requires.2) }
 
-add-result-2 : tie.Need-overflow-add-result-2
-add-result-2 c =
+pub overflow_add-result-2 : goal.overflow_add-result-2
+overflow_add-result-2 c =
     let w : c.args.w ≤ sheet_limits.words - 1 = omega (arith, c.requires) in
     record { fits = omega (arith, mul-le-mul w c.requires.2) }
 
-returns : tie.Need-returns
+pub returns : goal.returns
 returns c =
     let w : c.args.w ≤ sheet_limits.words - 1 = omega (arith, c.requires) in
     (refl, omega (arith, mul-le-mul w c.requires.2))
-
-pub bit-of-spec : {M : Type 1} → statement M
-bit-of-spec = tie.close (tie.spec mul-result add-result add-result-2 returns)
