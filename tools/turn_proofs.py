@@ -149,6 +149,7 @@ class Turn:
         self.of = of
         self.known = known
         self.cited = set()
+        self.own = {}
         self.steps = {}
         self.places = {}
         for at, (name, parent, step, callee, extra) in enumerate(of["places"]):
@@ -157,6 +158,8 @@ class Turn:
             own = not callee and re.fullmatch(re.escape(step[0]) + r"-\d+", step[1]) and not re.search(r"_known|-known", step[0])
             if step[0] and not own:
                 self.steps.setdefault(plain(step[0]), step[1])
+            elif own:
+                self.own.setdefault(plain(step[0]), step[1])
         # what an arm of a match says, at the old step that said it
         self.arms = []
         for arm in of["arms"]:
@@ -194,6 +197,7 @@ class Turn:
 
         t = re.sub(r"(\btie\.(?:After|In|Then|Else|At|Start|Joined)[^\s()]*)((?: (?:invariant|decreases)-[^\s()]+)+)", r"\1", t)
         t = re.sub(r"\.well-formed\b", ".well_formed", t)
+        t = re.sub(r"\.type-inv\b", ".type_inv", t)
         t = re.sub(r"simp length-map at (\S*\.well_formed\S*)", r"\1", t)
         t = re.sub(r"\btie\.((?:After|In|Then|Else|At|Start|Joined)[^\s()]*)", place, t)
 
@@ -203,6 +207,8 @@ class Turn:
             end = r"(?![\w'-])" if path != "keys" else r"(?=\d)"
             t = re.sub(r"\.(" + WORD + r")\." + re.escape(path) + end, lambda m: new if plain(m[1]) == old else m[0], t)
 
+        # a read that only Rattle names
+        t = re.sub(r"\.(" + WORD + r")\.given\b", lambda m: f".{self.own[plain(m[1])]}.given" if plain(m[1]) in self.own else m[0], t)
         # what a last arm knows of the variants that do not come to it
         t = re.sub(r"(?<![\w.])((?:\w+\.)(?:[^\s()]*\.)?in_default-own\.keys\d+)", r"(among \1)", t)
 
@@ -250,7 +256,8 @@ class Turn:
                 if path:
                     arms.append((plain(old), ".".join(path), f".{arm[0]}.{field}"))
                 elif field.endswith("-own"):
-                    arms.append((plain(old), "keys" , f".{arm[0]}.{field}.keys"))
+                    arms.append((plain(old), "keys", f".{arm[0]}.{field}.keys"))
+                    arms.append((plain(old), "given", f".{arm[0]}.{field}.given"))
             at = up
         return steps, arms
 
@@ -270,7 +277,7 @@ class Turn:
         bound = re.findall(r"\blet (\w+) = c(?:\.before)* in", b)
         for h, to in self.helpers.items():
             up = self.chain(at, to)
-            put = f"(goal.at.{goal} c).{to}" if goal else None if up is None else f"c{up}"
+            put = "c" if at == to and not goal else f"(goal.at.{goal or at} c).{to}" if goal or up is not None else None
             if put is None:
                 continue
             for v in ["c"] + bound:
