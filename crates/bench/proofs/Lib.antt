@@ -1,4 +1,1 @@
 pub mod TextLaws
-pub mod Walk
-pub mod Lent
-pub mod PageCalls
