@@ -1,3 +1,4 @@
+pub mod DecimalSeconds
 pub mod WallJudged
 pub mod WallSaid
 pub mod SheetExamples

@@ -40,6 +40,7 @@ use Rattle.gather.specs.Tests.{room_for_parameter, room_for_sample, room_for_com
 use Rattle.gather.specs.WallSheet.{wall_sheet}
 use Rattle.gather.specs.Ruling.{Ruling, Accepted, Refused, first_bad, identified, run, judge_of}
 use Rattle.gather.proofs.Stages.{first_lines}
+use Rattle.rulings.proofs.DecimalSeconds.{quarter_terms}
 use Rattle.rulings.proofs.WallJudged.{wall_accepted}
 
 -- ---- sheets
@@ -317,9 +318,17 @@ identifiers_hold : AllHold identifiers
 unfolding same every gcd_in gcd lowest_terms clash clash_any twice width before position first trim_start trim_end trim index_of count_of holds up_to past blank_line field_count piece_of field_of keyword_of all_clean lines_of line_judged all_digits digits_up_to place_of places number is_marked text_judged version_judged empty_judged says_true says_false truth_judged truth_of truth_or_empty_judged integer_judged integer_of declared_judged declared_of margin_of margin_as label_judged label_of millionths decimal_judged decimal_of delay_judged low_bit high_bit bits_judged bits_of component_bits_judged component_bits_of source_bits_judged is_fraction is_seconds fraction_of bad_fraction top_of bottom_of seconds_judged seconds_of word_form count_form either_form opening_form after_sample_form form_of pair_index declared_for range_judged word_counts piece pieces width_of named_apart identifier_ok identified_apart identifies taken spread samples_of components_of all_components_of words_of bitsOfPairs room_for_parameter room_for_sample room_for_component spots given last_overlap joined_test unlike_first width_test apart_from first_bad identified run judge_of
 identifiers_hold = (refl, (refl, (refl, (refl, (refl, (refl, (refl, tt)))))))
 
+-- 0.25, by computation but for its lowest terms
+quarter_computed : told (judge_of (sheet_of (lasting_lines "0.25"))) ≡ takes (lasting_content (lowest_terms 250000 1000000).numerator (lowest_terms 250000 1000000).denominator)
+unfolding same every clash clash_any twice width before position first trim_start trim_end trim index_of count_of holds up_to past blank_line field_count piece_of field_of keyword_of all_clean lines_of line_judged all_digits digits_up_to place_of places number is_marked text_judged version_judged empty_judged says_true says_false truth_judged truth_of truth_or_empty_judged integer_judged integer_of declared_judged declared_of margin_of margin_as label_judged label_of millionths decimal_judged decimal_of delay_judged low_bit high_bit bits_judged bits_of component_bits_judged component_bits_of source_bits_judged is_fraction is_seconds fraction_of bad_fraction top_of bottom_of seconds_judged seconds_of word_form count_form either_form opening_form after_sample_form form_of pair_index declared_for range_judged word_counts piece pieces width_of named_apart identifier_ok identified_apart identifies taken spread samples_of components_of all_components_of words_of bitsOfPairs room_for_parameter room_for_sample room_for_component spots given last_overlap joined_test unlike_first width_test apart_from first_bad identified run judge_of
+quarter_computed = refl
+
+quarter_taken : told (judge_of (sheet_of (lasting_lines "0.25"))) ≡ takes (lasting_content 1 4)
+quarter_taken = quarter_computed ∙ ap (λ r. takes (lasting_content r.numerator r.denominator)) quarter_terms
+
 durations_hold : AllHold durations
 unfolding same every gcd_in gcd lowest_terms clash clash_any twice width before position first trim_start trim_end trim index_of count_of holds up_to past blank_line field_count piece_of field_of keyword_of all_clean lines_of line_judged all_digits digits_up_to place_of places number is_marked text_judged version_judged empty_judged says_true says_false truth_judged truth_of truth_or_empty_judged integer_judged integer_of declared_judged declared_of margin_of margin_as label_judged label_of millionths decimal_judged decimal_of delay_judged low_bit high_bit bits_judged bits_of component_bits_judged component_bits_of source_bits_judged is_fraction is_seconds fraction_of bad_fraction top_of bottom_of seconds_judged seconds_of word_form count_form either_form opening_form after_sample_form form_of pair_index declared_for range_judged word_counts piece pieces width_of named_apart identifier_ok identified_apart identifies taken spread samples_of components_of all_components_of words_of bitsOfPairs room_for_parameter room_for_sample room_for_component spots given last_overlap joined_test unlike_first width_test apart_from first_bad identified run judge_of
-durations_hold = (refl, (refl, (refl, tt)))
+durations_hold = (refl, (quarter_taken, (refl, tt)))
 
 pub examples : AllHold cases
 examples = both_hold ends (orders ++ (samples ++ (overlaps ++ (identifiers ++ durations)))) ends_hold (both_hold orders (samples ++ (overlaps ++ (identifiers ++ durations))) orders_hold (both_hold samples (overlaps ++ (identifiers ++ durations)) samples_hold (both_hold overlaps (identifiers ++ durations) overlaps_hold (both_hold identifiers durations identifiers_hold durations_hold))))
