@@ -223,9 +223,11 @@ class Turn:
         t = re.sub(r"(\.(?:if|loop|walk|while)[^\s.()]*)\.left\b", r"\1.false", t)
         t = re.sub(r"\b([cs])((?:\.before)*)\.pre\b(?!-)", r"\1\2.requires", t)
         # a test of `!x` says what it says of x
-        t = re.sub(r"\(not-(?:true|false) _ (\w+\.[^\s()]*)\)", r"@\1", t)
-        t = re.sub(r"(?<![\w-])not-(?:true|false) _ (\w+\.[^\s()]*)", r"@\1", t)
-        t = re.sub(r"(?<![@\w.])(\w+(?:\.before)*\.if-not-[^\s.()]*\.(?:true|false))(?![\w-])", r"(ap not \1)", t)
+        called = "|".join(sorted(map(re.escape, {p[3].split("::")[-1] for p in self.of["places"] if p[3]}), key=len, reverse=True)) or "(?!)"
+        test = r"(\w+(?:\.before)*\.if-not-(?:" + called + r")[^\s.()]*\.(?:true|false))"
+        t = re.sub(r"\(not-(?:true|false) _ " + test + r"\)", r"@\1", t)
+        t = re.sub(r"(?<![\w-])not-(?:true|false) _ " + test, r"@\1", t)
+        t = re.sub(r"(?<![@\w.])" + test + r"(?![\w-])", r"(ap not \1)", t)
         t = t.replace("@", "")
         own = self.known.get(self.path.split(".")[-1], ([], []))
         if len(own[0]) > 1:

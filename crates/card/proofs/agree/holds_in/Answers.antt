@@ -1,0 +1,72 @@
+use mathlib.Core.Path.{◌∙◌, ap}
+use mathlib.Core.Bool.{not}
+use Prim.Native.Nat.{◌-◌}
+use native.Mathlib.Omega.{arith}
+use borrow.Author.Tests.{eq-eqb, ne_eqb}
+use Rattle.lay.proofs.Passing.{passed_none, passed_more, failed, passed_all}
+use Rattle.lay.proofs.Tests.{holds_not}
+use Rattle.model.specs.View.{view}
+use Rattle.framing.proofs.Held.{holds_all}
+use Rattle.carding.specs.Layout.{frame_at}
+use Rattle.card.proofs.Runs.{along_none, law_here, place_narrow, next_narrow, along_more, tested}
+use mathlib.Core.Bool.{not}
+use Rattle.card.proofs.agree.holds_in.Goals as goal
+
+pub sample_at-s-requires : goal.sample_at-s-requires
+sample_at-s-requires c = record { opened_of = c.requires.ruled_by.opened; j_bound = c.requires.sample_here.here }
+
+pub loop-k-init : goal.loop-k-init
+loop-k-init c =
+    let s = c in
+    let e = c.sample_at-s.ensures in
+    (along_none e.first_is e.count_is s.requires.ruled_by.ruled s.requires.sample_law, passed_none _ _ _ e.count_is)
+
+pub run_at-c-requires : goal.run_at-c-requires
+run_at-c-requires c =
+    let s = c in
+    let v = c.loop-k.invariant.0 in
+    let l = c.loop-k-test.true in
+    record { opened_of = s.requires.ruled_by.opened; k_bound = omega (arith, v.firsts, v.counted, l, s.requires.sample_here); subframes_law = s.requires.ruled_by.ruled.subframes; begins_of = s.requires.begins_of; component_law = law_here v l }
+
+pub overflow_add-p : goal.overflow_add-p
+overflow_add-p c = record { fits = omega (arith, c.run_at-c.ensures.small, c.requires.p_bound) }
+
+pub bits_at-requires : goal.bits_at-requires
+bits_at-requires c = c.run_at-c.ensures.few
+
+pub field_of-requires : goal.field_of-requires
+field_of-requires c =
+    (omega (arith, place_narrow c.loop-k.invariant.0 c.loop-k-test.true), omega (arith, c.run_at-c.ensures.few))
+
+pub returns-then-bits_at-field_of : goal.returns-then-bits_at-field_of
+returns-then-bits_at-field_of c =
+    let s = c in
+    let v = c.loop-k.invariant in
+    let l = c.loop-k-test.true in
+    let b = s.args.t.now in
+    let y = s.args.stream.now in
+    failed v.1 l (tested v.0 l c.run_at-c.ensures y s.args.p s.args.v c.bits_at.ensures.0 c.field_of.ensures) (holds_not _ (ne_eqb _ _ c.if-bits_at-field_of.true))
+    ∙ holds_all b s.args.j (frame_at (view b) y s.args.p) s.args.v
+
+pub overflow_add-at : goal.overflow_add-at
+overflow_add-at c = omega (arith, next_narrow c.loop-k.invariant.0 c.loop-k-test.true c.run_at-c.ensures)
+
+pub loop-k-smaller : goal.loop-k-smaller
+loop-k-smaller c = omega (arith, c.loop-k-test.true)
+
+pub loop-k-preserved : goal.loop-k-preserved
+loop-k-preserved c =
+    let s = c in
+    let v = c.loop-k.invariant in
+    let l = c.loop-k-test.true in
+    let e = c.run_at-c.ensures in (
+      along_more v.0 l e,
+      passed_more v.1 l (tested v.0 l e s.args.stream.now s.args.p s.args.v c.bits_at.ensures.0 c.field_of.ensures) (ap not (eq-eqb _ _ c.if-bits_at-field_of.false)),
+    )
+
+pub returns : goal.returns
+returns c =
+    let s = c in
+    let b = s.args.t.now in
+    passed_all c.loop-k.invariant.1 c.loop-k-test.false
+    ∙ holds_all b s.args.j (frame_at (view b) s.args.stream.now s.args.p) s.args.v

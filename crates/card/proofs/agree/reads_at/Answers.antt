@@ -1,0 +1,40 @@
+-- An identifier's components are compared in the stream.
+use mathlib.Core.Path.{◌≡◌, sym, ap, ap₂, ◌∙◌}
+use Prim.Native.Nat.{◌+◌}
+use native.Mathlib.Omega.{arith}
+use Rattle.model.specs.Samples.{holds}
+use Rattle.model.specs.Stored.{first_sample_in}
+use Rattle.model.specs.View.{sample_at, view}
+use Rattle.stored.proofs.Flagged.{identifier_flag}
+use Rattle.rules.specs.Ruled.{subframes_of}
+use Rattle.rules.proofs.Identifying.{first}
+use Rattle.framing.proofs.Listed.{listed_at, first_one, here_at, law_at}
+use Rattle.carding.specs.Layout.{frame_at}
+use Rattle.carding.proofs.Agreeing.{plain_reads, identifier_reads}
+use Rattle.card.proofs.agree.reads_at.Goals as goal
+
+pub returns-then-not-has_identifier : goal.returns-then-not-has_identifier
+returns-then-not-has_identifier c =
+    let l = c.requires.i_bound in
+    sym (plain_reads _ _ _ l (sym (identifier_flag _ _ c.parameter_at-e.ensures.flags_is c.has_identifier.ensures) ∙ c.if-not-has_identifier.true))
+
+pub holds_in-requires : goal.holds_in-requires
+holds_in-requires c =
+    let s = c in
+    let t = s.args.t.now in
+    let i = s.args.i in
+    let m = listed_at t i 0 s.requires.ruled_by.ruled s.requires.i_bound (first_one t i s.requires.ruled_by.ruled s.requires.i_bound) in
+    let q : c.parameter_at-e.result.first ≡ first_sample_in t i + 0 = omega (arith, c.parameter_at-e.ensures) in
+    record { ruled_by = s.requires.ruled_by; begins_of = s.requires.begins_of; sample_here = here_at t i 0 m q; sample_law = law_at t i 0 m q; p_bound = s.requires.p_bound }
+
+pub returns : goal.returns
+returns c =
+    let s = c in
+    let t = s.args.t.now in
+    let i = s.args.i in
+    let l = s.requires.i_bound in
+    let e = c.parameter_at-e.ensures in
+    let f = frame_at (view t) s.args.stream.now s.args.p in
+    c.holds_in.ensures
+    ∙ ap₂ (holds (subframes_of t) f) (ap (sample_at t) e.first_is ∙ sym (first t i s.requires.ruled_by.ruled l).is) e.value_is
+    ∙ sym (identifier_reads t f i l (sym (identifier_flag t i e.flags_is c.has_identifier.ensures) ∙ c.if-not-has_identifier.false))

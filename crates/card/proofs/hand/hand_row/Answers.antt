@@ -1,0 +1,73 @@
+use mathlib.Core.Path.{refl, sym, ap, ◌∙◌}
+use Prim.Native.Nat.{ℕ, ◌+◌, ◌-◌, ◌*◌, ◌≤◌}
+use native.Mathlib.Nat.{lt_of_lt_of_le, zero-mul, mul-le-mul, add-mul}
+use native.Mathlib.Omega.{arith}
+use lib.Pow.{pow_mono}
+use lib.ListN.{length-set}
+use lib.Seq.{take_all}
+use Rattle.model.specs.Forms.{sheet_limits}
+use Rattle.lay.specs.Bytes.{put}
+use Rattle.lay.proofs.Below.{length_tab, get_or_tab}
+use Rattle.lay.proofs.Puts.{put_none, put_more}
+use Rattle.stream.specs.Stream.{bits_from}
+use Rattle.card.proofs.hand.hand_row.Invariants.{row}
+use Rattle.card.proofs.hand.hand_row.Goals as goal
+
+pub loop-w-init : goal.loop-w-init
+loop-w-init c =
+    record {
+      room = c.requires.count_in_bounds;
+      bound = omega arith;
+      long = refl;
+      stands = omega (arith, zero-mul c.args.bits);
+      done = sym (put_none _ _);
+    }
+
+pub overflow_cast-bits : goal.overflow_cast-bits
+overflow_cast-bits c = record { fits = omega (arith, c.requires.bits_le_bits.0) }
+
+pub bits_at-requires : goal.bits_at-requires
+bits_at-requires c = c.requires.bits_le_bits.0
+
+pub overflow_cast-words : goal.overflow_cast-words
+overflow_cast-words c = record { fits = lt_of_lt_of_le c.bits_at.ensures.1 (pow_mono c.requires.bits_le_bits.0) }
+
+pub bounds-words-at : goal.bounds-words-at
+bounds-words-at c = omega (arith, c.loop-w.invariant, c.loop-w-test.true)
+
+pub overflow_add-place : goal.overflow_add-place
+overflow_add-place c =
+    let s = c in
+    let v = c.loop-w.invariant in
+    let w : c.loop-w.w ≤ sheet_limits.words = omega (arith, v.bound, s.requires.bits_le_bits.1) in
+    record { fits = omega (arith, v.stands, mul-le-mul w s.requires.bits_le_bits.0, s.requires.bits_le_bits) }
+
+pub loop-w-smaller : goal.loop-w-smaller
+loop-w-smaller c = omega (arith, c.loop-w.invariant, c.loop-w-test.true)
+
+pub loop-w-preserved : goal.loop-w-preserved
+loop-w-preserved c =
+    let v = c.loop-w.invariant in
+    let l = c.loop-w-test.true in
+    let a = c.args in
+    let y = a.stream.now in
+    let w = c.loop-w.w in
+    let all = row y a.k a.bits a.count in
+    let long = length_tab a.count (λ w. bits_from y (a.k + w * a.bits) a.bits) in
+    let is = c.bits_at.ensures.0 ∙ ap (λ (m : ℕ). bits_from y m a.bits) v.stands ∙ sym (get_or_tab a.count (λ w. bits_from y (a.k + w * a.bits) a.bits) 0 w l) in
+    record {
+      room = v.room;
+      bound = omega arith;
+      long = simp length-set v.long;
+      stands = omega (arith, v.stands, add-mul w 1 a.bits);
+      done = rw (v.done, is) (put_more a.words.now all a.at w (omega (arith, long)) (omega (arith, long, v.room)));
+    }
+
+pub returns : goal.returns
+returns c =
+    let v = c.loop-w.invariant in
+    let a = c.args in
+    let y = a.stream.now in
+    let all = row y a.k a.bits a.count in
+    let long = length_tab a.count (λ w. bits_from y (a.k + w * a.bits) a.bits) in
+    v.done ∙ ap (put a.words.now a.at) (take_all c.loop-w.w all (omega (arith, long, c.loop-w-test.false)))
