@@ -452,8 +452,10 @@ class Turn:
         args, body = e[1].split(), e[2]
         want = ["l." + ("initial." if ch else "") + v for v, ch in zip(vars_, changed)] + ["l." + v for v, ch in zip(vars_, changed) if ch]
         # The runtime is an argument that the landed function had not.
-        if len(args) < len(want) and "l.rt" in want:
+        if "l.rt" in want:
             want.remove("l.rt")
+        if len(args) > len(want):
+            args = [a for a in args if not re.fullmatch(r"t[0-9]+", a)]
         if len(args) != len(want):
             said.append(f"{old}: {len(args)} arguments, {len(want)} variables {want}")
         put = dict(zip(args, want))

@@ -1,0 +1,27 @@
+use mathlib.Core.Path.{refl, sym, ◌∙◌}
+use native.Mathlib.Omega.{arith}
+use Rattle.lines.proofs.Cuts.{Next, found_next}
+use borrow.Author.Rules.{rules}
+use Rattle.sheets.proofs.cases.cases.Goals.{In-Line}
+use Rattle.sheets.proofs.cases.cases.Goals as goal
+
+pub loop-c-init : goal.loop-c-init
+loop-c-init c = record { ready = search rules; sheets = refl; tables = refl }
+
+-- what the cursor found
+found : (c : In-Line) → Next c.args.list.now c.loop-c.c c.in-Line.start c.in-Line.end c.in-Line.next
+found c = found_next _ _ c.loop-c.invariant.ready _ _ _ (sym c.next.ensures ∙ c.in-Line.is)
+
+pub between-requires : goal.between-requires
+between-requires c =
+    let k = found (goal.at.between-requires c).In-Line in
+    (k.ordered, omega arith)
+
+pub loop-c-smaller : goal.loop-c-smaller
+loop-c-smaller c =
+    let k = found (goal.at.loop-c-smaller c).In-Line in
+    omega arith
+
+pub loop-c-preserved : goal.loop-c-preserved
+loop-c-preserved c =
+    record { ready = (found (goal.at.loop-c-preserved c).In-Line).ready; sheets = search rules; tables = search rules }
