@@ -1,0 +1,22 @@
+-- The entry of the asked parameter says where its name stands, and how long it is.
+use mathlib.Core.Path.{◌∙◌}
+use native.Mathlib.Omega.{arith}
+use Rattle.ffi.proofs.Names.{named_out, no_name_out_lem}
+use borrow.Author.Rules.{rules}
+use Rattle.ffi.proofs.tables.name_out.Goals as goal
+
+pub parameter_at-e-requires : goal.parameter_at-e-requires
+parameter_at-e-requires c = record { opened_of = c.requires.opened_of; i_bound = (c.requires.asked_here.each _ c.in-Parameter.is).here }
+
+pub overflow_add-result : goal.overflow_add-result
+overflow_add-result c = let l = c.requires.opened_of.starts.text_below in let m = c.parameter_at-e.ensures in search rules
+
+pub returns-in-Parameter : goal.returns-in-Parameter
+returns-in-Parameter c =
+    let e = c.in-Parameter.is in
+    let t = c.requires.opened_of.starts.text_is in
+    let p = c.parameter_at-e.ensures in
+    named_out _ _ _ _ _ e (c.requires.asked_here.each _ e) (omega (arith, t, p.start_is)) p.name_is
+
+pub returns-in-Refused : goal.returns-in-Refused
+returns-in-Refused c = c.no_name.ensures ∙ no_name_out_lem _ _ _ c.in-Refused.is
