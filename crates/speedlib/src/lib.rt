@@ -1,5 +1,6 @@
 // All samples of a frame by a table that is opened once: what speed/ compares with plain C.
 #![tactic(auto)]
+
 ghost use Rattle.std.specs.Prelude.{◌≡◌, ◌<◌, length};
 ghost use Rattle.model.specs.Frame.{frame_words};
 ghost use Rattle.model.specs.Stored.{parameters_in, sample_count_in};
