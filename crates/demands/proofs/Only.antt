@@ -7,7 +7,7 @@ use mathlib.Core.Bool.{true, false}
 use mathlib.Core.Path.{◌≡◌, refl, sym, ap, ap₂, subst, ◌∙◌}
 use mathlib.Core.List.{List}
 use mathlib.Core.Logic.{inl, inr}
-use denote.Ref.{Bor, MutBor}
+use denote.Ref.{Bor}
 use borrow.Author.Tests.{le-leb, lt-leb, ltb-true}
 use lib.ListN.{length, get_or, take, take-append-drop}
 use lib.IntN.{pos}
@@ -177,7 +177,7 @@ module _ (B : Calls) (D : Demands B) where
 
   -- ---- naming
 
-  names : (t : MutBor (List ℕ)) (p : ℕ) → Names t p (B.name t p)
+  names : (t : Bor (List ℕ)) (p : ℕ) → Names t p (B.name t p)
   names t p = go (dec_lt 0 (first_broken (name_rules t.now p)))
     where
       go : Dec (0 < first_broken (name_rules t.now p)) → Names t p (B.name t p)

@@ -19,7 +19,7 @@ use Rattle.demands.proofs.Meeting.{demands_met}
 
 -- the table's own bytes from where the name stands
 abbrev answered_part : Bor (List ℕ) → Asked → Bor (List ℕ)
-answered_part t a = record { ref_ptr = (t.ref_ptr.0, t.ref_ptr.1 + place_answered t.now a); ghost_name = t.ghost_name; now = name_answered t.now a }
+answered_part t a = record { ref_ptr = (t.ref_ptr.0, t.ref_ptr.1 + place_answered t.now a); now = name_answered t.now a }
 
 abbrev pub ours : Calls
 ours =

@@ -1,6 +1,6 @@
 -- The calls of any bench, ours or another's: what each answers, and what it leaves of the bytes and words it was lent.
 use Rattle.std.specs.Prelude.{ℕ, List}
-use Rattle.std.specs.Borrow.{Bor, MutBor}
+use Rattle.std.specs.Borrow.{Bor}
 use Rattle.maker.specs.declared.make.Made.{Made}
 use Rattle.table.specs.declared.check.Checked.{Checked}
 use Rattle.framing.specs.declared.read.Reading.{Reading}
@@ -50,9 +50,9 @@ pub record Kept (B : Calls) : Type 0 where
   pub places : (t f : List ℕ) (p s v : ℕ) → Places t f p s v (B.place t f p s v) (B.placed t f p s v)
   pub compares : (t f : List ℕ) → Compares t f (B.compare t f)
   pub pages : (t f : List ℕ) (qs : List Request) (rs : List Outcome) → Pages t f qs rs (B.page t f qs rs) (B.paged t f qs rs)
-  pub names : (t : MutBor (List ℕ)) (p : ℕ) → Names t p (B.name t p)
+  pub names : (t : Bor (List ℕ)) (p : ℕ) → Names t p (B.name t p)
   pub names_numbered : (t : List ℕ) (p : ℕ) → NameNumbered t p (B.name_number t p)
-  pub names_by : (t : MutBor (List ℕ)) (m : List ℕ) → NamesBy t m (B.name_by t m)
+  pub names_by : (t : Bor (List ℕ)) (m : List ℕ) → NamesBy t m (B.name_by t m)
   pub names_by_numbered : (t m : List ℕ) → NameByNumbered t m (B.name_by_number t m)
   pub cards_from : (t y : List ℕ) (from : ℕ) (w : List ℕ) → Cards t y from w (B.card_from t y from w) (B.handed_from t y from w)
   pub cards : (t y w : List ℕ) → Cards t y 0 w (B.card t y w) (B.handed t y w)

@@ -1,6 +1,6 @@
 -- The three demands, of any bench.
 use Rattle.std.specs.Prelude.{ℕ, ◌+◌, ◌-◌, ◌^◌, ◌≤◌, ◌<◌, Bool, true, false, cond, ◌≡◌, List, [], ◌⊎◌, ◌↔◌, ℤ, pos, length, get_or, take, drop}
-use Rattle.std.specs.Borrow.{Bor, MutBor}
+use Rattle.std.specs.Borrow.{Bor}
 use Rattle.bits.specs.Sign.{signed}
 use Rattle.lay.specs.Bytes.{AreBytes}
 use Rattle.sample.specs.Component.{Place, Named}
@@ -104,7 +104,7 @@ abbrev pub EmptyPart : Bor (List ℕ) → Bor (List ℕ) → Type 0
 EmptyPart t r = PartOf t r 0 []
 
 -- the name of parameter i, counted from 0
-abbrev pub NamePart : MutBor (List ℕ) → MutBor (List ℕ) → ℕ → Type 0
+abbrev pub NamePart : Bor (List ℕ) → Bor (List ℕ) → ℕ → Type 0
 NamePart t r i = PartOf t r (text_part t.now + text_start_in t.now i) (parameter (view t.now) i).name
 
 -- a page that is refused: "both write nothing"
@@ -129,9 +129,9 @@ pub record One (B : Calls) : Type 0 where
   pub pages : (t f : List ℕ) (qs : List Request) (rs : List Outcome) → (B.page t f qs rs).number ≡ first_broken (page_rules qs rs)
   pub page_unchanged : (t f : List ℕ) (qs : List Request) (rs : List Outcome) → (first_broken (page_rules qs rs) ≡ 0 → ⊥) → NothingPaged B t f qs rs
   pub names : (t : List ℕ) (p : ℕ) → B.name_number t p ≡ first_broken (name_rules t p)
-  pub unnamed : (t : MutBor (List ℕ)) (p : ℕ) → (first_broken (name_rules t.now p) ≡ 0 → ⊥) → EmptyPart t (B.name t p)
+  pub unnamed : (t : Bor (List ℕ)) (p : ℕ) → (first_broken (name_rules t.now p) ≡ 0 → ⊥) → EmptyPart t (B.name t p)
   pub mnemonics : (t m : List ℕ) → B.name_by_number t m ≡ first_broken (mnemonic_rules t m)
-  pub unknown : (t : MutBor (List ℕ)) (m : List ℕ) → (first_broken (mnemonic_rules t.now m) ≡ 0 → ⊥) → EmptyPart t (B.name_by t m)
+  pub unknown : (t : Bor (List ℕ)) (m : List ℕ) → (first_broken (mnemonic_rules t.now m) ≡ 0 → ⊥) → EmptyPart t (B.name_by t m)
   pub cards : (t y : List ℕ) (from : ℕ) (w : List ℕ) → carded_number (B.card_from t y from w) ≡ first_broken (card_rules t y from w)
   pub card_unchanged : (t y : List ℕ) (from : ℕ) (w : List ℕ) → (first_broken (card_rules t y from w) ≡ 0 → ⊥) → B.handed_from t y from w ≡ w
   pub no_bits : (t : List ℕ) → (first_broken (bits_rules t) ≡ 0 → ⊥) → B.frame_bits t ≡ 0
@@ -154,8 +154,8 @@ pub record SheetTaken (B : Calls) : Type 0 where
 
 -- the parameter's name, asked for by its number or its mnemonic
 pub record NameAnswered (B : Calls) : Type 0 where
-  pub name : (t : MutBor (List ℕ)) (p : ℕ) → first_broken (name_rules t.now p) ≡ 0 → NamePart t (B.name t p) (p - 1)
-  pub mnemonic : (t : MutBor (List ℕ)) (m : List ℕ) → first_broken (mnemonic_rules t.now m) ≡ 0 → (i : ℕ)
+  pub name : (t : Bor (List ℕ)) (p : ℕ) → first_broken (name_rules t.now p) ≡ 0 → NamePart t (B.name t p) (p - 1)
+  pub mnemonic : (t : Bor (List ℕ)) (m : List ℕ) → first_broken (mnemonic_rules t.now m) ≡ 0 → (i : ℕ)
       → i < parameters (view t.now) → (parameter (view t.now) i).mnemonic ≡ m → NamePart t (B.name_by t m) i
 
 -- a value placed
