@@ -1,5 +1,6 @@
 // The bench: what the bureau's desk calls, and nothing else. Every call answers for every input.
 #![tactic(auto)]
+
 pub mod cards;
 pub mod frames;
 pub mod pages;

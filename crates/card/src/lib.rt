@@ -1,5 +1,6 @@
 // Quick access cards: a frame found in a stream of bits, and its words handed out.
 #![tactic(auto)]
+
 pub mod agree;
 pub mod card;
 pub mod hand;

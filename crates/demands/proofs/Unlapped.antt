@@ -5,7 +5,7 @@ use mathlib.Core.Path.{◌≡◌, refl, sym, ap, ap₂, ◌∙◌, subst}
 use mathlib.Core.Bool.{Bool, true, false, cond, not, ◌&&◌}
 use mathlib.Core.List.{List}
 use mathlib.Core.Logic.{◌⊎◌, inl, inr}
-use Prim.Native.Nat.{ℕ, ◌+◌, ◌-◌, ◌^◌, ◌<◌}
+use Prim.Native.Nat.{ℕ, ◌+◌, ◌^◌, ◌<◌}
 use native.Mathlib.Omega.{arith}
 use borrow.Author.Tests.{eq-eqb, eqb-true}
 use lib.Dec.{eqb, ltb}
@@ -18,7 +18,7 @@ use Rattle.lay.proofs.Tests.{same_tests}
 use Rattle.sample.specs.declared.component.Component.{Component as Piece}
 use Rattle.sample.specs.Joining.{join, width}
 use Rattle.sample.specs.Placing.{place}
-use Rattle.model.specs.Content.{Content, Sample, parameter, parameters, sample, component, subframes}
+use Rattle.model.specs.Content.{Content, parameter, parameters, sample, component, subframes}
 use Rattle.model.specs.Limits.{Limits}
 use Rattle.model.specs.Samples.{wholes, pieces, width_of, overlapped, holds}
 use Rattle.model.specs.Identifiers.{lies}

@@ -1,5 +1,6 @@
 // What the calls on a frame answer: enums and structs, their definitions in specs/ and the laws about them; no function.
 #![tactic(auto)]
+
 pub mod compare;
 pub mod fit;
 pub mod page;

@@ -27,7 +27,7 @@ use Rattle.lineforms.specs.Forms.{by_keyword, word_form, count_form, either_form
 use Rattle.lineforms.specs.declared.due.Due.{Due}
 use Rattle.lineforms.specs.declared.due.Due.TheVariants as due
 use Rattle.lineforms.specs.declared.due.Form.{Form}
-use Rattle.lineforms.specs.declared.due.Form.TheVariants.{Stray, Superframe, HeaderWord, HeaderLine, RecordWord, RecordLine, NoneWord, ParameterWord, NameLine, TimeLine, SignedLine, RangeLine, SourceLine}
+use Rattle.lineforms.specs.declared.due.Form.TheVariants.{Stray, Superframe, RecordWord, NoneWord, ParameterWord, TimeLine}
 use Rattle.gather.specs.Ruling.{opens}
 use Rattle.gather.proofs.Stages.{Stage, form_in, tests_in, AllPass}
 

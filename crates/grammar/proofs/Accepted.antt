@@ -3,8 +3,7 @@ use mathlib.Core.Path.{◌≡◌, refl, sym, ap, ◌∙◌, subst}
 use mathlib.Core.Logic.{◌⊎◌, inl, inr}
 use mathlib.Core.Bool.{Bool, true, false, cond}
 use mathlib.Core.List.{List, [], ◌∷◌, append-nil}
-use Prim.Native.Nat.{ℕ, ◌+◌, ◌≤◌}
-use native.Mathlib.Omega.{arith}
+use Prim.Native.Nat.{ℕ, ◌+◌}
 use borrow.Author.Tests.{eqb-true, ltb-false}
 use lib.Dec.{eqb, ltb}
 use lib.ListN.{length}
@@ -22,7 +21,7 @@ use Rattle.lineforms.specs.declared.due.Due.{Due}
 use Rattle.lineforms.specs.declared.due.Due.TheVariants as due
 use Rattle.lineforms.specs.declared.due.Form.{Form}
 use Rattle.lineforms.specs.declared.due.Form.TheVariants as form
-use Rattle.model.specs.Content.{Content, Parameter}
+use Rattle.model.specs.Content.{Content}
 use Rattle.gather.specs.Book.{Book, empty_book, grow, content_of}
 use Rattle.gather.specs.Tests.{tests_of}
 use Rattle.gather.specs.Ruling.{Accepted, Refused, identified, at_end, form_at, opens, on_judged, run, longest_sheet, judge_of}
@@ -31,13 +30,13 @@ use Rattle.gather.proofs.Steps.{sound_step}
 use Rattle.gather.proofs.Stages.{unended_run}
 use Rattle.gather.proofs.AcceptedLawful.{never, identified_accepted, at_end_only, accepted_lawful}
 use Rattle.grammar.specs.Items.{Item}
-use Rattle.grammar.specs.Written.{Line, Written}
+use Rattle.grammar.specs.Written.{Written}
 use Rattle.grammar.specs.Says.{word, Says}
 use Rattle.grammar.proofs.Ended.{lines_none, lines_line}
 use Rattle.grammar.proofs.Left.{Left, Grows}
 use Rattle.grammar.proofs.Passings.{passed}
 use Rattle.grammar.proofs.Worded.{Spoken, keyword_spoken}
-use Rattle.grammar.proofs.Tells.{Extended, Tells, tells_stray, tells_superframe, tells_header_word, tells_header, tells_record_word, tells_next_word, tells_record, tells_none, tells_first, tells_next}
+use Rattle.grammar.proofs.Tells.{Tells, tells_stray, tells_superframe, tells_header_word, tells_header, tells_record_word, tells_next_word, tells_record, tells_none, tells_first, tells_next}
 use Rattle.grammar.proofs.TellParameters.{tells_names, tells_first_part, tells_opening_part, tells_part, tells_time, tells_samples_end, tells_signed, tells_range, tells_source, tells_more_source, tells_label, tells_source_end, tells_label_end, tells_parameter_end}
 
 -- ---- one line, whatever is due

@@ -12,7 +12,7 @@ use Rattle.lineforms.specs.declared.due.Due.TheVariants as due
 use Rattle.model.specs.Content.{Content, Parameter, Sample, Component, Subframe, subframes}
 use Rattle.gather.specs.Book.{Book, spread}
 use Rattle.grammar.specs.Items.{Item, time}
-use Rattle.grammar.specs.Says.{blank, word, header_line, record_line, record_lines, Declare, name_line, component_lines, sample_lines, signed_line, range_line, Source, plain, labelled, label_line, source_lines, Told, parameters_of, closing_lines, parameter_lines, body_lines, sheet_lines}
+use Rattle.grammar.specs.Says.{blank, word, header_line, record_line, record_lines, Declare, name_line, component_lines, sample_lines, signed_line, range_line, Source, label_line, source_lines, Told, parameters_of, closing_lines, parameter_lines, body_lines}
 
 -- ---- the header
 

@@ -1,6 +1,6 @@
 -- A line passes exactly where each of its tests does, in whatever form it has. Assumes nothing.
 use mathlib.Core.Path.{◌≡◌, refl, sym, ◌∙◌}
-use mathlib.Core.Bool.{Bool, true, false, not}
+use mathlib.Core.Bool.{true, false, not}
 use mathlib.Core.List.{List, [], ◌∷◌, ◌++◌}
 use Prim.Native.Nat.{ℕ, ◌≤◌}
 use native.Mathlib.Omega.{arith}
@@ -11,8 +11,8 @@ use Rattle.text.specs.declared.refusal.Refusal.{Refusal}
 use Rattle.text.specs.declared.refusal.Judged.{Judged}
 use Rattle.text.specs.declared.refusal.Judged.TheVariants.{Passes, Refused}
 use Rattle.text.proofs.Order.{first_step}
-use Rattle.lines.specs.Line.{all_clean, raw_hits}
-use Rattle.lines.specs.Order.{hits, line_judged}
+use Rattle.lines.specs.Line.{all_clean}
+use Rattle.lines.specs.Order.{line_judged}
 use Rattle.lines.proofs.Orders.{first_append}
 use Rattle.written.proofs.Passing.{when_false, false_when}
 use Rattle.lineforms.specs.declared.due.Form.{Form}

@@ -1,23 +1,22 @@
 -- Forwards: the lines of a parameter. Assumes nothing.
-use mathlib.Core.Path.{◌≡◌, refl, sym, ap, ◌∙◌}
+use mathlib.Core.Path.{◌≡◌, sym, ap, ◌∙◌}
 use mathlib.Core.Logic.{inl, inr}
 use mathlib.Core.Bool.{cond}
 use mathlib.Core.List.{List, [], ◌∷◌, ◌++◌, append_assoc, append-nil}
 use Prim.Native.Nat.{ℕ}
 use native.Mathlib.Omega.{arith}
-use lib.ListN.{length}
 use Rattle.text.specs.Fields.{field_count}
 use Rattle.lineforms.specs.Said.{time_in, signed_in, value_in}
 use Rattle.lineforms.specs.declared.due.Due.TheVariants as due
 use Rattle.lineforms.specs.declared.due.Form.TheVariants as form
-use Rattle.model.specs.Content.{Content, Parameter, Sample, Component}
-use Rattle.gather.specs.Book.{Book, named_of, component_of, parting, sampled, words_of, bits_of}
+use Rattle.model.specs.Content.{Content, Sample, Component}
+use Rattle.gather.specs.Book.{Book, named_of, component_of, parting, words_of, bits_of}
 use Rattle.grammar.specs.Items.{Item, time}
 use Rattle.grammar.specs.Written.{Line}
 use Rattle.grammar.specs.Says.{blank, name_line, component_line, component_lines, sample_lines, signed_line, range_line, plain, labelled, source_line, label_line, parameters_of}
 use Rattle.grammar.proofs.ParameterKinds.{name_told, component_told, time_told}
 use Rattle.grammar.proofs.ClosingKinds.{signed_told, range_told, source_told, label_told}
-use Rattle.grammar.proofs.Left.{Left, regrown, SamplesLeft, PartsLeft, SourceLeft, SourceEndsLeft, SourceBlankLeft, AfterSourceLeft, filled, completed, closed, whole}
+use Rattle.grammar.proofs.Left.{regrown, SamplesLeft, PartsLeft, SourceLeft, SourceEndsLeft, SourceBlankLeft, AfterSourceLeft, filled, completed, closed, whole}
 use Rattle.grammar.proofs.Passings.{Passing}
 use Rattle.grammar.proofs.Tells.{Tells, blank_line_lem}
 

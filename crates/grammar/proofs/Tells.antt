@@ -4,11 +4,11 @@ use mathlib.Core.Path.{◌≡◌, refl, sym, ap, ◌∙◌}
 use mathlib.Core.Logic.{◌⊎◌, inl, inr}
 use mathlib.Core.Bool.{Bool, true, false, cond}
 use mathlib.Core.List.{List, [], ◌∷◌, ◌++◌, append_assoc, append-nil}
-use Prim.Native.Nat.{ℕ, ◌+◌, ◌≤◌}
+use Prim.Native.Nat.{ℕ, ◌≤◌}
 use native.Mathlib.Omega.{arith}
-use borrow.Author.Tests.{eqb-true, eqb-false}
+use borrow.Author.Tests.{eqb-true}
 use lib.Dec.{eqb}
-use lib.ListN.{length, get_or, length-append}
+use lib.ListN.{length, get_or}
 use Rattle.lay.specs.Below.{tab}
 use Rattle.text.specs.Blanks.{trim}
 use Rattle.text.specs.Fields.{field_count}
@@ -16,7 +16,7 @@ use Rattle.text.specs.Keywords.{header_word, record_word, none_word, parameter_w
 use Rattle.text.specs.declared.keyword.Keyword.TheVariants as keyword
 use Rattle.text.specs.declared.refusal.Refusal.TheVariants.{NotDue, NotCarried}
 use Rattle.lineforms.specs.Forms.{due_after}
-use Rattle.lineforms.specs.Said.{sequential_in, subframes_in}
+use Rattle.lineforms.specs.Said.{subframes_in}
 use Rattle.lineforms.specs.declared.due.Due.{Due}
 use Rattle.lineforms.specs.declared.due.Due.TheVariants as due
 use Rattle.lineforms.specs.declared.due.Form.{Form}
@@ -29,7 +29,7 @@ use Rattle.grammar.specs.Written.{Line}
 use Rattle.grammar.specs.Says.{word, header_line, record_line, Declare, parameters_of}
 use Rattle.grammar.proofs.Partings.{trim_word, count_blank}
 use Rattle.grammar.proofs.HeadKinds.{header_told, record_told}
-use Rattle.grammar.proofs.Left.{Left, Pairs, Grows}
+use Rattle.grammar.proofs.Left.{Left}
 use Rattle.grammar.proofs.Passings.{refused_passes, Passing}
 use Rattle.grammar.proofs.Worded.{spoken_text}
 

@@ -1,5 +1,6 @@
 // Judging a sheet: the counts of what its lines gather to, and the rules that look back.
 #![tactic(auto)]
+
 pub mod columns;
 pub mod identifiers;
 pub mod kept;

@@ -7,7 +7,7 @@ use lib.ListN.{length, get_or}
 use Rattle.lay.specs.Below.{sum, flat}
 use Rattle.lay.specs.Layout.{row_bytes, laid}
 use Rattle.lay.proofs.Below.{flat_same, length_flat}
-use Rattle.model.specs.Content.{Content, Subframe, Parameter, Sample, Component, no_subframe, no_parameter, no_sample, no_component, subframes, parameters, parameter, all_samples, all_components, first_sample, first_component}
+use Rattle.model.specs.Content.{Content, Subframe, Parameter, Sample, Component, no_subframe, no_parameter, no_sample, no_component, parameters, parameter, all_samples, all_components, first_sample, first_component}
 use Rattle.model.specs.Write.{samples, components, texts, text_start, head_values, subframe_values, parameter_values, sample_values, component_values, numbers_of, write, parameter_from, sample_from}
 use Rattle.model.specs.Items.{subframe_part, parameter_part, sample_part, component_part, parts}
 use Rattle.model.specs.Forms.{newest}

@@ -1,5 +1,6 @@
 // The listing's texts.
 #![tactic(auto)]
+
 pub mod cards;
 pub mod listing;
 pub mod numbers;

@@ -3,7 +3,7 @@ use mathlib.Core.Path.{◌≡◌, refl, sym, ap, subst, ◌∙◌}
 use mathlib.Core.Bool.{Bool, true, false}
 use mathlib.Core.List.{List}
 use mathlib.Core.Logic.{◌⊎◌, inl, inr, ⊎_elim}
-use Prim.Native.Nat.{ℕ, ◌+◌, ◌-◌, ◌<◌}
+use Prim.Native.Nat.{ℕ, ◌+◌, ◌<◌}
 use native.Mathlib.Omega.{arith}
 use lib.Dec.{ltb}
 use lib.ListN.{length, drop, length-drop}
@@ -27,7 +27,7 @@ use Rattle.model.specs.Content.{Content, no_parameter}
 use Rattle.gather.specs.Book.{Book, grow}
 use Rattle.gather.specs.Tests.{due_test, tests_of}
 use Rattle.gather.proofs.Stages.{unended_run}
-use Rattle.gather.specs.Ruling.{Ruling, Accepted, Refused, form_at, opens, at_end, on_judged, run}
+use Rattle.gather.specs.Ruling.{Ruling, Accepted, form_at, opens, at_end, on_judged, run}
 use Rattle.judge.specs.Walk.{onward, end_book}
 use Rattle.laying.proofs.Clear.{Clear, Kept, clear_at, clear_step}
 use Rattle.laying.proofs.Rising.{Rises, rises_same, rises_on, rises_grow}

@@ -1,5 +1,6 @@
 // Making a location table from a sheet.
 #![tactic(auto)]
+
 pub mod copies;
 pub mod emit;
 pub mod entries;

@@ -1,5 +1,6 @@
 // The spellings of one field: what each says, or what it is refused for.
 #![tactic(auto)]
+
 pub mod answers;
 pub mod decimals;
 pub mod digits;

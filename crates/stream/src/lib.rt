@@ -1,5 +1,6 @@
 // A stream of bits: "the low bit of each byte .. first".
 #![tactic(auto)]
+
 pub mod skip;
 
 ghost use Rattle.std.specs.Prelude.{◌≡◌, ◌/◌, ◌%◌, ◌≤◌, ◌<◌, ◌^◌, get_or};

@@ -6,7 +6,7 @@ use mathlib.Core.Path.{◌≡◌}
 use mathlib.Core.Logic.{inl, inr}
 use mathlib.Core.List.{List}
 use Prim.Native.Nat.{ℕ, suc, ◌+◌, ◌*◌, ◌≤◌, ◌<◌}
-use Rattle.ratio.specs.Ratio.{lowest, lowest_terms}
+use Rattle.ratio.specs.Ratio.{lowest_terms}
 use Rattle.ratio.proofs.Reduced.{same_value, in_lowest, denominator_positive, numerator_positive, denominator_small, stays_below}
 use Rattle.model.specs.Forms.{sheet_limits}
 use Rattle.spell.specs.Digits.{number}

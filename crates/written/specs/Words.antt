@@ -1,6 +1,6 @@
 -- What each spelling is, in plain words: which bytes may stand in a field, put together from digits and marks, and what they
 -- say. No field is searched, cut or trimmed here.
-use Rattle.std.specs.Prelude.{ℕ, ◌+◌, ◌*◌, ◌%◌, ◌≤◌, ◌<◌, ◌≡◌, ◌⊎◌, Bool, true, false, List, [], ◌∷◌, ◌++◌, length, get_or}
+use Rattle.std.specs.Prelude.{ℕ, ◌+◌, ◌*◌, ◌%◌, ◌≤◌, ◌<◌, ◌≡◌, ◌⊎◌, Bool, true, false, List, ◌∷◌, ◌++◌, length, get_or}
 use Rattle.lay.specs.Quoted.{quoted}
 use Rattle.text.specs.Blanks.{space, tab}
 use Rattle.spell.specs.Digits.{number, places}

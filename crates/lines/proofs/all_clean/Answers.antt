@@ -1,5 +1,4 @@
 use mathlib.Core.Path.{refl, sym, ◌∙◌}
-use Prim.Native.Nat.{◌-◌}
 use Rattle.lines.proofs.CleanBytes.{clean_more, clean_not, clean_end}
 use borrow.Author.Rules.{rules}
 use Rattle.lines.proofs.all_clean.Goals as goal

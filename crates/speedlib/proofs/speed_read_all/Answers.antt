@@ -1,4 +1,3 @@
-use Prim.Native.Nat.{◌-◌}
 use Rattle.table.proofs.Accepting.{opened_ruled}
 use Rattle.speedlib.proofs.speed_read_all.Goals as goal
 

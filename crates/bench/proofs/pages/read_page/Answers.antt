@@ -1,13 +1,10 @@
 use mathlib.Core.Path.{◌≡◌, ap, ◌∙◌}
-use Prim.Native.Nat.{ℕ, ◌<◌, ◌≤◌}
 use native.Mathlib.Numerals.{add-one}
 use native.Mathlib.Omega.{arith}
-use mathlib.Core.List.{List}
-use lib.ListN.{length, set, get_or}
+use lib.ListN.{length}
 use Rattle.framing.specs.Paging.{outcome_at}
 use Rattle.framing.specs.declared.page.Request.{Request}
-use Rattle.framing.specs.declared.page.Outcome.{Outcome}
-use Rattle.framing.proofs.Pages.{mix, mix_next, mix_length, page_all, page_many, page_few}
+use Rattle.framing.proofs.Pages.{mix, mix_next, page_all, page_many, page_few}
 use Rattle.bench.proofs.pages.read_page.Goals as goal
 
 -- what is past the end of a list

@@ -1,8 +1,6 @@
 use mathlib.Core.Path.{sym, ◌∙◌}
-use Prim.Native.Nat.{◌-◌}
 use native.Mathlib.Omega.{arith}
 use Rattle.lay.proofs.Passing.{passed_none, passed_more, failed, passed_all}
-use Rattle.carding.specs.Search.{reads_at}
 use Rattle.carding.proofs.Agreeing.{agrees_all}
 use mathlib.Core.Path.{ap}
 use mathlib.Core.Bool.{not}

@@ -1,5 +1,5 @@
 use mathlib.Core.Path.{refl, sym, ap, ◌∙◌}
-use Prim.Native.Nat.{ℕ, ◌+◌, ◌-◌, ◌*◌, ◌≤◌}
+use Prim.Native.Nat.{ℕ, ◌+◌, ◌*◌, ◌≤◌}
 use native.Mathlib.Nat.{lt_of_lt_of_le, zero-mul, mul-le-mul, add-mul}
 use native.Mathlib.Omega.{arith}
 use lib.Pow.{pow_mono}

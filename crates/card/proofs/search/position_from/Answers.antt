@@ -1,5 +1,4 @@
 use mathlib.Core.Path.{refl, sym, ◌∙◌}
-use Prim.Native.Nat.{◌-◌}
 use native.Mathlib.Omega.{arith}
 use Rattle.model.specs.View.{view}
 use Rattle.card.proofs.Searching.{walk_starts, walk_more, walk_found, walk_ends, walk_sifted}

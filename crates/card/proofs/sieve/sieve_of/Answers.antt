@@ -1,4 +1,3 @@
-use Prim.Native.Nat.{◌-◌}
 use native.Mathlib.Omega.{arith}
 use Rattle.card.proofs.Sieves.{sieve_none}
 use Rattle.card.proofs.sieve.sieve_of.Goals as goal

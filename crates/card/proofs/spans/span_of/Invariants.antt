@@ -3,7 +3,6 @@ use mathlib.Core.Path.{◌≡◌}
 use mathlib.Core.List.{List}
 use Prim.Native.Nat.{ℕ, ◌-◌, ◌*◌, ◌≤◌, ◌<◌}
 use lib.ListN.{length, get_or}
-use Rattle.model.specs.Content.{subframes}
 use Rattle.model.specs.Forms.{sheet_limits}
 use Rattle.model.specs.Stored.{subframes_in}
 use Rattle.model.specs.View.{view}

@@ -1,10 +1,7 @@
 use mathlib.Core.Path.{sym, ◌∙◌}
-use mathlib.Core.Bool.{false}
-use Prim.Native.Nat.{◌-◌}
 use native.Mathlib.Nat.{not-suc-le-zero}
 use native.Mathlib.Omega.{arith}
 use borrow.Author.Count.{below_more}
-use Rattle.framing.specs.Comparing.{differs_in}
 use Rattle.framing.proofs.CompareCases.{first_differs, all_agree}
 use Rattle.frame.proofs.compare.compare_in.Goals as goal
 

@@ -1,10 +1,7 @@
 use mathlib.Core.Path.{sym, ◌∙◌}
-use mathlib.Core.Bool.{false}
-use Prim.Native.Nat.{◌-◌}
 use native.Mathlib.Nat.{not-suc-le-zero}
 use native.Mathlib.Omega.{arith}
 use borrow.Author.Count.{below_more}
-use Rattle.framing.specs.Comparing.{differs_at}
 use Rattle.framing.proofs.CompareCases.{some_differs, none_differs}
 use Rattle.frame.proofs.compare.differs_in.Goals as goal
 

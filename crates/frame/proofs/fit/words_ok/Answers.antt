@@ -1,8 +1,6 @@
 use mathlib.Core.Path.{sym, ◌∙◌}
-use Prim.Native.Nat.{◌-◌}
 use native.Mathlib.Omega.{arith}
 use Rattle.lay.proofs.Passing.{passed_none, passed_more, failed, passed_all}
-use Rattle.framing.specs.Fitting.{subframe_fits}
 use Rattle.framing.proofs.Fitness.{all_fit}
 use mathlib.Core.Path.{ap}
 use mathlib.Core.Bool.{not}

@@ -1,7 +1,7 @@
 use mathlib.Core.Path.{◌≡◌, refl, sym, ap, ◌∙◌, subst}
 use mathlib.Core.Bool.{not}
 use mathlib.Core.List.{List, [], ◌∷◌}
-use Prim.Native.Nat.{ℕ, ◌+◌, ◌-◌, ◌*◌, ◌^◌, ◌≤◌, ◌<◌}
+use Prim.Native.Nat.{ℕ, ◌+◌, ◌*◌, ◌^◌, ◌≤◌, ◌<◌}
 use native.Mathlib.Nat.{lt_of_lt_of_le}
 use native.Mathlib.Omega.{arith}
 use lib.Dec.{lit≤, eqb}
@@ -148,8 +148,11 @@ returns c =
     let cs = all_pieces c.args.t.now c.args.j in
     let e = ended c.loop-k.invariant c.loop-k-test.false in
     let raw_is : c.loop-k.raw ≡ join f cs = joining_raw _ _ e in
-    let width_is : c.loop-k.width ≡ width cs = joining_width _ _ e in record { joins = record {
+    let width_is : c.loop-k.width ≡ width cs = joining_width _ _ e in record {
+      joins = record {
         raw_is = raw_is;
         width_is = width_is;
         below = rw (raw_is, width_is) (join_lt f cs);
-      }; laps_value = lapped c.loop-k.invariant c.loop-k-test.false }
+      };
+      laps_value = lapped c.loop-k.invariant c.loop-k-test.false;
+    }

@@ -1,5 +1,4 @@
 use native.Mathlib.Omega.{arith}
-use Prim.Native.Nat.{◌-◌}
 use mathlib.Core.Path.{refl}
 use Rattle.judge.proofs.SixteenLaws.{all_taken_more, all_taken_not, all_taken_end}
 use Rattle.judge.proofs.identifiers.all_taken.Goals as goal

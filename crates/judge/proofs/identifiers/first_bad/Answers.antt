@@ -1,5 +1,4 @@
 use native.Mathlib.Omega.{arith}
-use Prim.Native.Nat.{◌-◌}
 use Rattle.judge.proofs.SixteenLaws.{fine_more, fine_not, fine_end}
 use Rattle.judge.proofs.identifiers.first_bad.Goals as goal
 

@@ -1,5 +1,4 @@
 use native.Mathlib.Omega.{arith}
-use Prim.Native.Nat.{◌-◌}
 use Rattle.judge.proofs.SixteenLaws.{free_more, free_not, free_end}
 use Rattle.judge.proofs.identifiers.is_taken.Goals as goal
 

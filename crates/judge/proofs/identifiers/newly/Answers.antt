@@ -1,5 +1,4 @@
 use native.Mathlib.Omega.{arith}
-use Prim.Native.Nat.{◌-◌}
 use mathlib.Core.Path.{refl}
 use Rattle.judge.proofs.SixteenLaws.{differing_more, differing_not, differing_end}
 use Rattle.judge.proofs.identifiers.newly.Goals as goal

@@ -1,6 +1,5 @@
 use borrow.Author.Tests.{not-true, not-false, eq-eqb, ne_eqb}
 use Rattle.judge.specs.Keeping.{good_in}
-use mathlib.Core.Path.{ap}
 use Rattle.judge.proofs.kept.is_good.Goals as goal
 
 pub returns-then-not-x : goal.returns-then-not-x

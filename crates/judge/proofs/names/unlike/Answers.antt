@@ -1,5 +1,4 @@
 use mathlib.Core.Path.{refl, ◌∙◌}
-use Prim.Native.Nat.{◌-◌}
 use Rattle.judge.proofs.NameLaws.{unlike_more, unlike_here, unlike_end}
 use borrow.Author.Rules.{rules}
 use Rattle.judge.proofs.names.unlike.Goals as goal

@@ -1,6 +1,5 @@
 use native.Mathlib.Omega.{arith}
 use mathlib.Core.Path.{sym, ◌∙◌}
-use Prim.Native.Nat.{◌-◌}
 use Rattle.judge.proofs.Judging.{judging_start, judging_pairs, judging_parameters, judging_marks, judging_ended, judging_end}
 use Rattle.judge.proofs.Turnings.{turn_going, turn_refused, turn_next, turn_steady, turn_on}
 use Rattle.judge.proofs.walk.walked.Goals as goal

@@ -1,4 +1,3 @@
-use borrow.Author.Tests.{not-false}
 use Rattle.lines.proofs.Finding as finding
 use Rattle.lines.proofs.Cursor.next.Goals as goal
 

@@ -1,5 +1,4 @@
 use mathlib.Core.Path.{refl}
-use Prim.Native.Nat.{◌-◌}
 use Rattle.listed.proofs.WordLaws.{words_start, words_next, words_end}
 use Rattle.listed.proofs.listing.put_words.Goals as goal
 

@@ -1,5 +1,4 @@
 use mathlib.Core.Path.{sym, ◌∙◌}
-use Prim.Native.Nat.{◌-◌}
 use Rattle.maker.proofs.Writing as writing
 use Rattle.maker.proofs.walk.walk.Goals as goal
 

@@ -4,7 +4,6 @@ use mathlib.Core.Bool.{true}
 use mathlib.Core.List.{List}
 use Prim.Native.Nat.{ℕ, ◌-◌, ◌≤◌}
 use Rattle.lay.specs.Below.{all}
-use Rattle.model.specs.Content.{parameters}
 use Rattle.model.specs.Identifiers.{identifies}
 use Rattle.model.specs.Stored.{parameters_in}
 use Rattle.model.specs.View.{view}

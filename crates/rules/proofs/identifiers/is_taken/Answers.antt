@@ -1,6 +1,6 @@
 use mathlib.Core.Path.{◌≡◌, refl, sym, ◌∙◌}
 use mathlib.Core.Bool.{false}
-use Prim.Native.Nat.{◌-◌, ◌<◌}
+use Prim.Native.Nat.{◌<◌}
 use native.Mathlib.Numerals.{add-one}
 use native.Mathlib.Omega.{arith}
 use borrow.Author.Tests.{eq-eqb, ne_eqb}
@@ -33,8 +33,8 @@ loop-i-preserved c =
     let e = c.is_identifier.ensures in
     let x : takes b s i ≡ false =
     elim c.if-is_identifier.branch [
-      then-is_identifier+else-lies_in-s w ↦ let f = ne_eqb (lies (parameter_at b i)) s (λ h. omega arith) in rw (sym e ∙ w.if-is_identifier.true, f)
-    | else-is_identifier w ↦ rw (sym e ∙ w.if-is_identifier.false)
+      | then-is_identifier+else-lies_in-s w ↦ let f = ne_eqb (lies (parameter_at b i)) s (λ h. omega arith) in rw (sym e ∙ w.if-is_identifier.true, f)
+      | else-is_identifier w ↦ rw (sym e ∙ w.if-is_identifier.false)
     ] in
     record { within = omega arith; none = rw (add-one, c.loop-i.invariant.none, x) }
 

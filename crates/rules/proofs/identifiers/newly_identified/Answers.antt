@@ -1,6 +1,5 @@
 use mathlib.Core.Path.{◌≡◌, refl, sym, ◌∙◌}
 use mathlib.Core.Bool.{true, false}
-use Prim.Native.Nat.{◌-◌}
 use native.Mathlib.Omega.{arith}
 use Rattle.lay.proofs.Tests.{refuse, differ}
 use Rattle.lay.proofs.Below.{all_more, all_below}
@@ -35,8 +34,8 @@ loop-k-preserved c =
     let e = c.is_identifier.ensures in
     let x : apart_from b i k ≡ true =
     elim c.if-is_identifier.branch [
-      then-is_identifier+else-not-identified_apart w ↦ rw (sym e ∙ w.if-is_identifier.true, sym w.identified_apart.ensures ∙ w.if-not-identified_apart.false)
-    | else-is_identifier w ↦ rw (sym e ∙ w.if-is_identifier.false)
+      | then-is_identifier+else-not-identified_apart w ↦ rw (sym e ∙ w.if-is_identifier.true, sym w.identified_apart.ensures ∙ w.if-not-identified_apart.false)
+      | else-is_identifier w ↦ rw (sym e ∙ w.if-is_identifier.false)
     ] in
     record { within = omega arith; done = all_more k (apart_from b i) c.loop-k.invariant.done x }
 

@@ -57,8 +57,8 @@ returns-else-same_text-3 c =
       name = apart c.name_in.ensures.0 c.name_in-2.ensures.0 c.same_text.ensures c.if-same_text.false;
       mnemonic =
           elim c.if-mnemonic-gt0.branch [
-            then-mnemonic-gt0+else-same_text-2 w ↦ λ l. apart w.mnemonic_in.ensures m w.same_text-then-mnemonic-gt0.ensures w.if-same_text-2.false
-          | else-mnemonic-gt0 w ↦ λ l. absurd (omega (arith, w.if-mnemonic-gt0.false, ap length m))
+            | then-mnemonic-gt0+else-same_text-2 w ↦ λ l. apart w.mnemonic_in.ensures m w.same_text-then-mnemonic-gt0.ensures w.if-same_text-2.false
+            | else-mnemonic-gt0 w ↦ λ l. absurd (omega (arith, w.if-mnemonic-gt0.false, ap length m))
           ];
       identification = λ l. apart c.identification_in.ensures d c.same_text-then-identification-gt0.ensures c.if-same_text-3.false;
     }))
@@ -74,8 +74,8 @@ returns-else-identification-gt0 c =
       name = apart c.name_in.ensures.0 c.name_in-2.ensures.0 c.same_text.ensures c.if-same_text.false;
       mnemonic =
           elim c.if-mnemonic-gt0.branch [
-            then-mnemonic-gt0+else-same_text-2 w ↦ λ l. apart w.mnemonic_in.ensures m w.same_text-then-mnemonic-gt0.ensures w.if-same_text-2.false
-          | else-mnemonic-gt0 w ↦ λ l. absurd (omega (arith, w.if-mnemonic-gt0.false, ap length m))
+            | then-mnemonic-gt0+else-same_text-2 w ↦ λ l. apart w.mnemonic_in.ensures m w.same_text-then-mnemonic-gt0.ensures w.if-same_text-2.false
+            | else-mnemonic-gt0 w ↦ λ l. absurd (omega (arith, w.if-mnemonic-gt0.false, ap length m))
           ];
       identification = λ l. absurd (omega (arith, c.if-identification-gt0.false, ap length d));
     }))

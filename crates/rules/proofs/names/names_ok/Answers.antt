@@ -1,10 +1,7 @@
 use mathlib.Core.Path.{◌≡◌, refl, sym, ◌∙◌}
-use mathlib.Core.Bool.{true}
-use Prim.Native.Nat.{◌-◌}
 use native.Mathlib.Omega.{arith}
 use Rattle.lay.proofs.Tests.{refuse, differ}
 use Rattle.lay.proofs.Below.{all_more, all_below}
-use Rattle.model.specs.Identifiers.{named_apart}
 use Rattle.model.specs.Stored.{parameters_in}
 use Rattle.model.proofs.Laying.{parameter_here}
 use Rattle.rules.specs.Ruled.{names_ok}

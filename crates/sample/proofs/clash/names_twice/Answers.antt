@@ -1,9 +1,8 @@
 use mathlib.Core.Path.{◌≡◌, refl, ◌∙◌}
-use mathlib.Core.Bool.{false}
 use mathlib.Core.List.{◌∷◌}
-use Prim.Native.Nat.{◌+◌, ◌-◌, ◌≤◌}
+use Prim.Native.Nat.{◌+◌, ◌≤◌}
 use native.Mathlib.Omega.{arith}
-use lib.ListN.{length, get_or, length-map}
+use lib.ListN.{length, get_or}
 use lib.Seq.{slice}
 use Rattle.sample.proofs.Walks.{nothing, left_next, left_none, twice_row, row_done, row_apart, row_found, twice_done}
 use Rattle.sample.proofs.clash.names_twice.Goals.{In-loop-j, Start}

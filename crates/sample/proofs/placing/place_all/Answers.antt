@@ -1,8 +1,8 @@
 use mathlib.Core.Path.{◌≡◌, subst}
 use mathlib.Core.List.{List, ◌∷◌}
-use Prim.Native.Nat.{◌+◌, ◌-◌}
+use Prim.Native.Nat.{◌+◌}
 use native.Mathlib.Omega.{arith}
-use lib.ListN.{length, get_or, length-map}
+use lib.ListN.{length, get_or}
 use lib.Seq.{slice}
 use Rattle.sample.specs.declared.component.Component.{Component}
 use Rattle.sample.specs.Promise.{listed}

@@ -1,5 +1,4 @@
 use mathlib.Core.Path.{refl, sym, ◌∙◌}
-use Prim.Native.Nat.{◌-◌}
 use Rattle.spell.proofs.DigitLaws as digits
 use borrow.Author.Rules.{rules}
 use Rattle.spell.proofs.digits.digits_up_to.Goals as goal

@@ -1,7 +1,5 @@
 use mathlib.Core.Path.{sym, ◌∙◌}
-use mathlib.Core.Bool.{true}
 use native.Mathlib.Omega.{arith}
-use Prim.Native.Nat.{◌-◌}
 use Rattle.spell.proofs.DigitLaws as digits
 use borrow.Author.Rules.{rules}
 use Rattle.spell.proofs.digits.value.Goals as goal

@@ -1,5 +1,4 @@
 use mathlib.Core.Path.{sym, ◌∙◌}
-use Rattle.spell.specs.Digits.{number}
 use Rattle.spell.specs.BitRanges.{hyphen, high_bit}
 use Rattle.spell.proofs.MarkLaws.{mark_right, six_asked}
 use Rattle.spell.proofs.ranges.high_bit.Goals as goal

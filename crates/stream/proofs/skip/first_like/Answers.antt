@@ -1,5 +1,4 @@
 use mathlib.Core.Path.{subst, ◌∙◌}
-use Prim.Native.Nat.{◌-◌}
 use native.Mathlib.Omega.{arith}
 use Rattle.stream.proofs.Skipping.{Since, since_none, since_more, first_like}
 use Rattle.stream.proofs.skip.first_like.Goals as goal

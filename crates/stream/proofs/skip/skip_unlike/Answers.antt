@@ -1,5 +1,4 @@
 use mathlib.Core.Path.{subst}
-use Prim.Native.Nat.{◌-◌}
 use native.Mathlib.Omega.{arith}
 use Rattle.stream.specs.Promise.{EightUnlike}
 use Rattle.stream.proofs.Streams.{window_made, small_made}
@@ -24,8 +23,8 @@ loop-a-preserved c =
     let l = c.loop-a-test.true in
     let t = c.requires.2 in
     elim c.if-not-eight_unlike.branch [
-      then-not-eight_unlike+else-j-lt8 x ↦ passed_last _ _ _ _ _ h w l t x.bit_in.ensures x.first_like-j.ensures x.if-j-lt8.false
-    | else-not-eight_unlike x ↦ passed_eight _ _ _ _ _ h w l t (subst (EightUnlike _ _ _) x.if-not-eight_unlike.false c.eight_unlike.ensures)
+      | then-not-eight_unlike+else-j-lt8 x ↦ passed_last _ _ _ _ _ h w l t x.bit_in.ensures x.first_like-j.ensures x.if-j-lt8.false
+      | else-not-eight_unlike x ↦ passed_eight _ _ _ _ _ h w l t (subst (EightUnlike _ _ _) x.if-not-eight_unlike.false c.eight_unlike.ensures)
     ]
 
 pub returns : goal.returns

@@ -1,4 +1,3 @@
-use Prim.Native.Nat.{◌-◌}
 use native.Mathlib.Omega.{arith}
 use Rattle.lay.proofs.Passing.{passed_none, passed_more, failed, passed_all}
 use mathlib.Core.Path.{ap}

@@ -1,6 +1,5 @@
 use borrow.Author.Rules.{rules}
 use mathlib.Core.Path.{sym, ap, ◌∙◌}
-use Prim.Native.Nat.{◌-◌}
 use lib.Seq.{take-length, length-take-le}
 use Rattle.text.specs.Blanks.{trim_end}
 use Rattle.text.proofs.Trims as laws

@@ -1,5 +1,4 @@
 use mathlib.Core.Path.{refl, sym, ◌∙◌}
-use Prim.Native.Nat.{◌-◌}
 use Rattle.text.proofs.Trims as laws
 use Rattle.text.proofs.blank.trim_start.Goals as goal
 

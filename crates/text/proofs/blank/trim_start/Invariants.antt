@@ -1,5 +1,4 @@
 use mathlib.Core.Path.{◌≡◌}
-use Prim.Native.Nat.{◌-◌}
 use lib.ListN.{length}
 use Rattle.text.specs.Blanks.{trim_start}
 use Rattle.text.proofs.blank.trim_start.Given as goal

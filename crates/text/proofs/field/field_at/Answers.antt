@@ -1,5 +1,4 @@
 use mathlib.Core.Path.{refl}
-use Prim.Native.Nat.{◌-◌}
 use Rattle.text.specs.Fields.{piece_from}
 use Rattle.text.proofs.Places.{at_start, from_more}
 use borrow.Author.Rules.{rules}

@@ -3,7 +3,7 @@ use mathlib.Core.Path.{◌≡◌, refl, ap, ◌∙◌}
 use Prim.Native.Nat.{ℕ}
 use native.Mathlib.Numerals.{add-one}
 use native.Mathlib.Omega.{arith}
-use lib.ListN.{length, take, set, length-map}
+use lib.ListN.{length, take, set}
 use lib.Seq.{take-suc-set}
 use Rattle.sample.proofs.component.Components.with.Goals as goal
 
