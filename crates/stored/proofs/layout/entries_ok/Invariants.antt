@@ -2,7 +2,7 @@
 use mathlib.Core.Path.{◌≡◌}
 use mathlib.Core.Bool.{true}
 use mathlib.Core.List.{List}
-use Prim.Native.Nat.{ℕ, ◌-◌, ◌*◌, ◌≤◌}
+use Prim.Native.Nat.{ℕ, ◌*◌, ◌≤◌}
 use Rattle.lay.specs.Below.{all, sum}
 use Rattle.model.specs.Stored.{parameters_in, sample_count_in, text_length_in}
 use Rattle.model.specs.Accepts.{entry_ok}
@@ -18,7 +18,4 @@ pub record Passed (b : List ℕ) (parameters first start i : ℕ) : Type 0 where
   pub done : all i (entry_ok b) ≡ true
 
 abbrev pub invariant-loop-i : goal.invariant-loop-i
-invariant-loop-i l = Passed l.t l.parameters l.first l.start l.i
-
-abbrev pub decreases-loop-i : goal.decreases-loop-i
-decreases-loop-i l = l.parameters - l.i
+invariant-loop-i l = Passed l.t.bytes.now l.parameters l.first l.start l.i

@@ -1,5 +1,5 @@
 -- The form, the header and the offsets, one after the other; what they say is handed on.
-use mathlib.Core.Path.{sym, ◌∙◌}
+use mathlib.Core.Path.{refl, sym, ◌∙◌}
 use Rattle.lay.proofs.Tests.{refuse, differ}
 use Rattle.model.proofs.Laying.{formed, header, header_few, offsets, sized, head_formed, head_header, head_offsets, head_joined}
 use Rattle.stored.proofs.Reading.{known_here, few_here, starts_here}
@@ -36,16 +36,24 @@ offsets_ok-requires c =
 pub returns-then-not-offsets_ok : goal.returns-then-not-offsets_ok
 returns-then-not-offsets_ok c = unopened (refuse _ (λ h. differ (sym c.offsets_ok.ensures ∙ c.if-not-offsets_ok.true) (head_offsets _ h)))
 
+pub invariant_of-result : goal.invariant_of-result
+invariant_of-result c =
+    let f = formed _ (sym c.form_ok.ensures ∙ c.if-not-form_ok.false) in
+    let g = sym c.header_ok.ensures ∙ c.if-not-header_ok.false in
+    let s = sym c.offsets_ok.ensures ∙ c.if-not-offsets_ok.false in
+    record {
+      opened_of =
+          record {
+            sized = sized _ f (header _ g) (offsets _ s).fits;
+            form_is = c.form_of-form.ensures;
+            counts = c.counts_of-counts.ensures;
+            starts = starts_here c.counts_of-counts.ensures f c.form_of-form.ensures c.starts_of-starts.ensures;
+          };
+    }
+
 pub returns : goal.returns
 returns c =
     let k = sym c.form_ok.ensures ∙ c.if-not-form_ok.false in
     let g = sym c.header_ok.ensures ∙ c.if-not-header_ok.false in
     let s = sym c.offsets_ok.ensures ∙ c.if-not-offsets_ok.false in
-    let f = formed _ k in
-    opened_as (head_joined _ k g s)
-    (record {
-      sized = sized _ f (header _ g) (offsets _ s).fits;
-      form_is = c.form_of-form.ensures;
-      counts = c.counts_of-counts.ensures;
-      starts = starts_here c.counts_of-counts.ensures f c.form_of-form.ensures c.starts_of-starts.ensures;
-    })
+    opened_as (head_joined _ k g s) refl

@@ -11,28 +11,22 @@ use Rattle.stored.proofs.layout.rows_ok.Invariants.{in_row}
 use Rattle.stored.proofs.layout.rows_ok.Goals as goal
 
 pub loop-j-init : goal.loop-j-init
-loop-j-init c = record { counted = c.requires.counts.samples_is; within = omega arith; firsts = refl; few = omega arith; done = refl }
+loop-j-init c = record { counted = c.args.t.now.opened_of.counts.samples_is; within = omega arith; firsts = refl; few = omega arith; done = refl }
 
 pub returns-then-s-first : goal.returns-then-s-first
 returns-then-s-first c =
-    let b = c.args.t.now in
+    let b = c.args.t.now.bytes.now in
     let l : c.loop-j.j < samples_in b = omega (arith, c.loop-j.invariant, c.loop-j-test.true) in
     let v = c.loop-j.invariant in
     let e = c.sample_at-s.ensures in
     refuse _ (λ h. let x = (rows b h).each c.loop-j.j l in omega (arith, v, e, x, c.if-s-first.true))
 
 pub overflow_add-first : goal.overflow_add-first
-overflow_add-first c = omega (arith, c.loop-j.invariant, c.sample_at-s.ensures, c.loop-j-test.true, c.requires.sized)
-
-pub overflow_add-j : goal.overflow_add-j
-overflow_add-j c = omega (arith, c.loop-j.invariant, c.sample_at-s.ensures, c.loop-j-test.true, c.requires.sized)
-
-pub loop-j-smaller : goal.loop-j-smaller
-loop-j-smaller c = omega (arith, c.loop-j.invariant, c.sample_at-s.ensures, c.loop-j-test.true, c.requires.sized)
+overflow_add-first c = omega (arith, c.loop-j.invariant, c.sample_at-s.ensures, c.loop-j-test.true, c.args.t.now.opened_of.sized)
 
 pub loop-j-preserved : goal.loop-j-preserved
 loop-j-preserved c =
-    let b = c.args.t.now in
+    let b = c.args.t.now.bytes.now in
     let l : c.loop-j.j < samples_in b = omega (arith, c.loop-j.invariant, c.loop-j-test.true) in
     let v = c.loop-j.invariant in
     let e = c.sample_at-s.ensures in
@@ -46,17 +40,17 @@ loop-j-preserved c =
       done = all_more j (in_row b) v.done (let f : first_component_in b j ≡ sum j (component_count_in b) = omega (arith, v, e, c.if-s-first.false) in eq-eqb _ _ f);
     }
 
-pub returns-then-o-first : goal.returns-then-o-first
-returns-then-o-first c =
-    let b = c.args.t.now in
+pub returns-then-t-first : goal.returns-then-t-first
+returns-then-t-first c =
+    let b = c.args.t.now.bytes.now in
     let v = c.loop-j.invariant in
     let full : c.loop-j.j ≡ samples_in b = omega (arith, v, c.loop-j-test.false) in
     let m = ap (λ (k : ℕ). sum k (component_count_in b)) full in
-    refuse _ (λ h. let x = (rows b h).components in omega (arith, v, m, x, c.requires.counts, c.if-o-first.true))
+    refuse _ (λ h. let x = (rows b h).components in omega (arith, v, m, x, c.args.t.now.opened_of.counts, c.if-t-first.true))
 
 pub returns : goal.returns
 returns c =
-    let b = c.args.t.now in
+    let b = c.args.t.now.bytes.now in
     let v = c.loop-j.invariant in
     let full : c.loop-j.j ≡ samples_in b = omega (arith, v, c.loop-j-test.false) in
     let m = ap (λ (k : ℕ). sum k (component_count_in b)) full in
@@ -64,5 +58,5 @@ returns c =
     (rows_made b
     (record {
       each = λ j l. eqb-true _ _ (all_below (samples_in b) (in_row b) (rw full at v.done) j l);
-      components = omega (arith, v, m, c.requires.counts, c.if-o-first.false);
+      components = omega (arith, v, m, c.args.t.now.opened_of.counts, c.if-t-first.false);
     }))

@@ -2,7 +2,7 @@
 use mathlib.Core.Path.{◌≡◌}
 use mathlib.Core.Bool.{Bool, true}
 use mathlib.Core.List.{List}
-use Prim.Native.Nat.{ℕ, ◌-◌, ◌*◌, ◌≤◌}
+use Prim.Native.Nat.{ℕ, ◌*◌, ◌≤◌}
 use lib.Dec.{eqb}
 use Rattle.lay.specs.Below.{all, sum}
 use Rattle.model.specs.Stored.{samples_in, first_component_in, component_count_in}
@@ -19,7 +19,4 @@ pub record Passed (b : List ℕ) (samples first j : ℕ) : Type 0 where
   pub done : all j (in_row b) ≡ true
 
 abbrev pub invariant-loop-j : goal.invariant-loop-j
-invariant-loop-j l = Passed l.t l.samples l.first l.j
-
-abbrev pub decreases-loop-j : goal.decreases-loop-j
-decreases-loop-j l = l.samples - l.j
+invariant-loop-j l = Passed l.t.bytes.now l.samples l.first l.j

@@ -10,7 +10,7 @@ not_not : {t : Bool} → t ≡ true → not t ≡ false
 not_not h = ap not h
 
 pub loop-k-init : goal.loop-k-init
-loop-k-init c = passed_none _ _ _ c.requires.counts.components_is
+loop-k-init c = passed_none _ _ _ c.args.t.now.opened_of.counts.components_is
 
 pub returns-then-zero_byte-ne0 : goal.returns-then-zero_byte-ne0
 unfolding zero_bytes_ok

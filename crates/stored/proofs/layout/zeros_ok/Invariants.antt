@@ -1,7 +1,7 @@
 -- The zero bytes before k are 0.
 use mathlib.Core.Bool.{Bool}
 use mathlib.Core.List.{List}
-use Prim.Native.Nat.{ℕ, ◌-◌}
+use Prim.Native.Nat.{ℕ}
 use lib.Dec.{eqb}
 use Rattle.lay.proofs.Passing.{Passed}
 use Rattle.model.specs.Stored.{components_in, zero_byte_in}
@@ -11,7 +11,4 @@ abbrev pub is_zero : List ℕ → ℕ → Bool
 is_zero b k = eqb (zero_byte_in b k) 0
 
 abbrev pub invariant-loop-k : goal.invariant-loop-k
-invariant-loop-k l = Passed (components_in l.t) (is_zero l.t) l.components l.k
-
-abbrev pub decreases-loop-k : goal.decreases-loop-k
-decreases-loop-k l = l.components - l.k
+invariant-loop-k l = Passed (components_in l.t.bytes.now) (is_zero l.t.bytes.now) l.components l.k
