@@ -19,17 +19,17 @@ use Rattle.rules.proofs.entries.parameter_ok.Goals as goal
 
 pub returns-then-not-texts_ok : goal.returns-then-not-texts_ok
 returns-then-not-texts_ok c =
-    let b = c.args.t.now in
+    let b = c.args.d.now.table.bytes.now in
     let i = c.args.i in
     refuse _ (λ h. differ (sym c.texts_ok.ensures ∙ c.if-not-texts_ok.true) (texts_of b i (parameter_law (limits_in b) (subframes_of b) (parameter_at b i) h)))
 
 pub bounds_of-most-requires : goal.bounds_of-most-requires
-bounds_of-most-requires c = known_here c.requires.opened_of.sized.formed c.requires.opened_of.form_is
+bounds_of-most-requires c = known_here c.args.d.now.table.opened_of.sized.formed c.args.d.now.table.opened_of.form_is
 
 pub returns-then-not-value_ok : goal.returns-then-not-value_ok
 unfolding parameter_at
 returns-then-not-value_ok c =
-    let b = c.args.t.now in
+    let b = c.args.d.now.table.bytes.now in
     let i = c.args.i in
     let e = c.parameter_at-e.ensures in
     let q = ap₂ (λ (f v : ℕ). eqb (f / 2) 1 || eqb v 0) e.flags_is e.value_is in
@@ -41,30 +41,30 @@ returns-then-not-value_ok c =
 pub returns-then-most-e : goal.returns-then-most-e
 unfolding parameter_at
 returns-then-most-e c =
-    let b = c.args.t.now in
+    let b = c.args.d.now.table.bytes.now in
     let i = c.args.i in
-    refuse _ (λ h. let r = (parameter_law (limits_in b) (subframes_of b) (parameter_at b i) h).value in omega (arith, r, c.parameter_at-e.ensures.value_is, ap (λ (l : Limits). l.value) (bounds_are _ c.requires.opened_of.form_is c.bounds_of-most.ensures), c.if-most-e.true))
+    refuse _ (λ h. let r = (parameter_law (limits_in b) (subframes_of b) (parameter_at b i) h).value in omega (arith, r, c.parameter_at-e.ensures.value_is, ap (λ (l : Limits). l.value) (bounds_are _ c.args.d.now.table.opened_of.form_is c.bounds_of-most.ensures), c.if-most-e.true))
 
 pub returns-then-e-lt1 : goal.returns-then-e-lt1
 returns-then-e-lt1 c =
-    let b = c.args.t.now in
+    let b = c.args.d.now.table.bytes.now in
     let i = c.args.i in
     let n = samples_at b i in
     refuse _ (λ h. let r = (parameter_law (limits_in b) (subframes_of b) (parameter_at b i) h).some in omega (arith, r, c.parameter_at-e.ensures.count_is, n, c.if-e-lt1.true))
 
 pub returns-then-most-e-2 : goal.returns-then-most-e-2
 returns-then-most-e-2 c =
-    let b = c.args.t.now in
+    let b = c.args.d.now.table.bytes.now in
     let i = c.args.i in
     let n = samples_at b i in
-    refuse _ (λ h. let r = (parameter_law (limits_in b) (subframes_of b) (parameter_at b i) h).few in omega (arith, r, c.parameter_at-e.ensures.count_is, n, ap (λ (l : Limits). l.samples_each) (bounds_are _ c.requires.opened_of.form_is c.bounds_of-most.ensures), c.if-most-e-2.true))
+    refuse _ (λ h. let r = (parameter_law (limits_in b) (subframes_of b) (parameter_at b i) h).few in omega (arith, r, c.parameter_at-e.ensures.count_is, n, ap (λ (l : Limits). l.samples_each) (bounds_are _ c.args.d.now.table.opened_of.form_is c.bounds_of-most.ensures), c.if-most-e-2.true))
 
 pub samples_ok-requires : goal.samples_ok-requires
-samples_ok-requires c = record { opened_of = c.requires.opened_of; rows = c.requires.rows; parameter_here = c.requires.parameter_here; subframes_law = c.requires.subframes_law }
+samples_ok-requires c = record { rows = c.requires.rows; parameter_here = c.requires.parameter_here }
 
 pub returns-then-not-samples_ok : goal.returns-then-not-samples_ok
 returns-then-not-samples_ok c =
-    let b = c.args.t.now in
+    let b = c.args.d.now.table.bytes.now in
     let i = c.args.i in
     refuse _
     (λ h.
@@ -73,7 +73,7 @@ returns-then-not-samples_ok c =
 
 pub returns : goal.returns
 returns c =
-    let b = c.args.t.now in
+    let b = c.args.d.now.table.bytes.now in
     let i = c.args.i in
     let e = c.parameter_at-e.ensures in
     let q = ap₂ (λ (f v : ℕ). eqb (f / 2) 1 || eqb v 0) e.flags_is e.value_is in
@@ -83,9 +83,9 @@ returns c =
     (record {
       texts = sym c.texts_ok.ensures ∙ c.if-not-texts_ok.false;
       plain = sym q ∙ sym c.value_ok.ensures ∙ c.if-not-value_ok.false;
-      value = omega (arith, e.value_is, ap (λ (l : Limits). l.value) (bounds_are _ c.requires.opened_of.form_is c.bounds_of-most.ensures), c.if-most-e.false);
+      value = omega (arith, e.value_is, ap (λ (l : Limits). l.value) (bounds_are _ c.args.d.now.table.opened_of.form_is c.bounds_of-most.ensures), c.if-most-e.false);
       some = omega (arith, e.count_is, c.if-e-lt1.false);
-      few = omega (arith, e.count_is, ap (λ (l : Limits). l.samples_each) (bounds_are _ c.requires.opened_of.form_is c.bounds_of-most.ensures), c.if-most-e-2.false);
+      few = omega (arith, e.count_is, ap (λ (l : Limits). l.samples_each) (bounds_are _ c.args.d.now.table.opened_of.form_is c.bounds_of-most.ensures), c.if-most-e-2.false);
       samples = and_0 (samples_ok b i) (alike b i) s;
       widths = and_1 (samples_ok b i) (alike b i) s;
     }))

@@ -17,7 +17,7 @@ read : (b : List ℕ) (i first j w : ℕ) → first ≡ first_sample_in b i → 
 read b i first j w e h = h ∙ ap (λ (f : ℕ). lawful_width b (f + j)) e
 
 pub parameter_at-e-requires : goal.parameter_at-e-requires
-parameter_at-e-requires c = record { opened_of = c.requires.opened_of; i_bound = c.requires.parameter_here.here }
+parameter_at-e-requires c = record { i_bound = c.requires.parameter_here.here }
 
 pub loop-j-init : goal.loop-j-init
 loop-j-init c =
@@ -31,20 +31,20 @@ pub lawful_width-w-requires : goal.lawful_width-w-requires
 lawful_width-w-requires c =
     let v = c.loop-j.invariant in
     let h = c.requires.parameter_here.samples in
-    record { opened_of = c.requires.opened_of; sample_here = sample_here c.args.t.now c.requires.rows _ (omega (arith, v.firsts, v.counted, c.loop-j-test.true, h)); subframes_law = c.requires.subframes_law }
+    record { sample_here = sample_here c.args.d.now.table.bytes.now c.requires.rows _ (omega (arith, v.firsts, v.counted, c.loop-j-test.true, h)) }
 
 pub returns-then-w-eq0 : goal.returns-then-w-eq0
 returns-then-w-eq0 c =
-    let b = c.args.t.now in
+    let b = c.args.d.now.table.bytes.now in
     let i = c.args.i in
     let v = c.loop-j.invariant in
     let e = read b i c.parameter_at-e.result.first c.loop-j.j _ v.firsts c.lawful_width-w.ensures in
     refuse _ (λ h. sample_some b i c.loop-j.j (samples_law b i h c.loop-j.j (omega (arith, v.counted, c.loop-j-test.true))).0 (sym e ∙ c.if-w-eq0.true))
 
 -- the width kept is the first sample's
-kept : (c : Joined-j-eq0) → c.if-j-eq0.width ≡ width_at c.args.t.now c.args.i 0
+kept : (c : Joined-j-eq0) → c.if-j-eq0.width ≡ width_at c.args.d.now.table.bytes.now c.args.i 0
 kept c =
-    let b = c.args.t.now in
+    let b = c.args.d.now.table.bytes.now in
     let i = c.args.i in
     let v = c.loop-j.invariant in
     let e = read b i c.parameter_at-e.result.first c.loop-j.j _ v.firsts c.lawful_width-w.ensures in
@@ -53,22 +53,16 @@ kept c =
 
 pub returns-then-w-width : goal.returns-then-w-width
 returns-then-w-width c =
-    let b = c.args.t.now in
+    let b = c.args.d.now.table.bytes.now in
     let i = c.args.i in
     let v = c.loop-j.invariant in
     let e = read b i c.parameter_at-e.result.first c.loop-j.j _ v.firsts c.lawful_width-w.ensures in
     let s = sample_width b i c.loop-j.j (λ z. c.if-w-eq0.false (e ∙ z)) in
     refuse _ (λ h. c.if-w-width.true (e ∙ s.1 ∙ (samples_law b i h c.loop-j.j (omega (arith, v.counted, c.loop-j-test.true))).1 ∙ sym (kept (goal.at.returns-then-w-width c).Joined-j-eq0)))
 
-pub overflow_add-j : goal.overflow_add-j
-overflow_add-j c = omega (arith, c.loop-j-test.true, c.parameter_at-e.ensures.count_below)
-
-pub loop-j-smaller : goal.loop-j-smaller
-loop-j-smaller c = omega (arith, c.loop-j-test.true)
-
 pub loop-j-preserved : goal.loop-j-preserved
 loop-j-preserved c =
-    let b = c.args.t.now in
+    let b = c.args.d.now.table.bytes.now in
     let i = c.args.i in
     let v = c.loop-j.invariant in
     let e = read b i c.parameter_at-e.result.first c.loop-j.j _ v.firsts c.lawful_width-w.ensures in

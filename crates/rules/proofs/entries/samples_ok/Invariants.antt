@@ -2,7 +2,7 @@
 use mathlib.Core.Path.{◌≡◌}
 use mathlib.Core.Bool.{true}
 use mathlib.Core.List.{List}
-use Prim.Native.Nat.{ℕ, ◌+◌, ◌-◌, ◌≤◌, ◌<◌}
+use Prim.Native.Nat.{ℕ, ◌+◌, ◌≤◌, ◌<◌}
 use Rattle.model.specs.Forms.{limits_in}
 use Rattle.model.specs.Rules.{sample_ok}
 use Rattle.model.specs.Stored.{first_sample_in, sample_count_in}
@@ -22,7 +22,4 @@ pub record Passed (b : List ℕ) (i first count width j : ℕ) : Type 0 where
   pub done : (k : ℕ) → k < j → Fine b i k
 
 abbrev pub invariant-loop-j : goal.invariant-loop-j
-invariant-loop-j l = Passed l.t l.i l.first l.count l.width l.j
-
-abbrev pub decreases-loop-j : goal.decreases-loop-j
-decreases-loop-j l = l.count - l.j
+invariant-loop-j l = Passed l.d.table.bytes.now l.i l.first l.count l.width l.j

@@ -14,7 +14,7 @@ use Rattle.model.proofs.Meanings.{seconds_law, seconds_made, subframe_law, subfr
 use Rattle.rules.proofs.entries.subframe_ok.Goals as goal
 
 pub bounds_of-most-requires : goal.bounds_of-most-requires
-bounds_of-most-requires c = known_here c.requires.opened_of.sized.formed c.requires.opened_of.form_is
+bounds_of-most-requires c = known_here c.args.t.now.opened_of.sized.formed c.args.t.now.opened_of.form_is
 
 pub returns-then-f-lt1 : goal.returns-then-f-lt1
 unfolding subframe_at
@@ -26,7 +26,7 @@ pub returns-then-most-f : goal.returns-then-most-f
 unfolding subframe_at
 returns-then-most-f c =
     let e = c.subframe_at-f.ensures in
-    refuse _ (λ h. let r = subframe_law (limits_in _) _ h in omega (arith, r, e, ap (λ (l : Limits). l.bits) (bounds_are _ c.requires.opened_of.form_is c.bounds_of-most.ensures), c.if-most-f.true))
+    refuse _ (λ h. let r = subframe_law (limits_in _) _ h in omega (arith, r, e, ap (λ (l : Limits). l.bits) (bounds_are _ c.args.t.now.opened_of.form_is c.bounds_of-most.ensures), c.if-most-f.true))
 
 pub returns-then-f-lt1-2 : goal.returns-then-f-lt1-2
 unfolding subframe_at
@@ -38,13 +38,13 @@ pub returns-then-most-f-2 : goal.returns-then-most-f-2
 unfolding subframe_at
 returns-then-most-f-2 c =
     let e = c.subframe_at-f.ensures in
-    refuse _ (λ h. let r = subframe_law (limits_in _) _ h in omega (arith, r, e, ap (λ (l : Limits). l.words) (bounds_are _ c.requires.opened_of.form_is c.bounds_of-most.ensures), c.if-most-f-2.true))
+    refuse _ (λ h. let r = subframe_law (limits_in _) _ h in omega (arith, r, e, ap (λ (l : Limits). l.words) (bounds_are _ c.args.t.now.opened_of.form_is c.bounds_of-most.ensures), c.if-most-f-2.true))
 
 pub returns-then-not-margin_ok : goal.returns-then-not-margin_ok
 unfolding subframe_at
 returns-then-not-margin_ok c =
     let e = c.subframe_at-f.ensures in
-    let m = bounds_are _ c.requires.opened_of.form_is c.bounds_of-most.ensures in
+    let m = bounds_are _ c.args.t.now.opened_of.form_is c.bounds_of-most.ensures in
     let q = ap₂ margin_ok m (ap margin_as e.leading_is) in
     refuse _ (λ h. differ (sym q ∙ sym c.margin_ok.ensures ∙ c.if-not-margin_ok.true) (margin_made (limits_in _) _ (subframe_law (limits_in _) _ h).leading))
 
@@ -52,21 +52,21 @@ pub returns-then-not-margin_ok-2 : goal.returns-then-not-margin_ok-2
 unfolding subframe_at
 returns-then-not-margin_ok-2 c =
     let e = c.subframe_at-f.ensures in
-    let m = bounds_are _ c.requires.opened_of.form_is c.bounds_of-most.ensures in
+    let m = bounds_are _ c.args.t.now.opened_of.form_is c.bounds_of-most.ensures in
     let q = ap₂ margin_ok m (ap margin_as e.trailing_is) in
     refuse _ (λ h. differ (sym q ∙ sym c.margin_ok-2.ensures ∙ c.if-not-margin_ok-2.true) (margin_made (limits_in _) _ (subframe_law (limits_in _) _ h).trailing))
 
 pub seconds_ok-requires : goal.seconds_ok-requires
 seconds_ok-requires c =
-    let m = ap (λ (l : Limits). l.seconds) (bounds_are _ c.requires.opened_of.form_is c.bounds_of-most.ensures) in
-    let w = (limits_within _ c.requires.opened_of.sized.formed).seconds in
+    let m = ap (λ (l : Limits). l.seconds) (bounds_are _ c.args.t.now.opened_of.form_is c.bounds_of-most.ensures) in
+    let w = (limits_within _ c.args.t.now.opened_of.sized.formed).seconds in
     record { seconds_le_seconds = omega (arith, m, w); denominator_bound = omega (arith, c.subframe_at-f.ensures.denominator_below) }
 
 pub returns-then-not-seconds_ok : goal.returns-then-not-seconds_ok
 unfolding subframe_at
 returns-then-not-seconds_ok c =
     let e = c.subframe_at-f.ensures in
-    let m = bounds_are _ c.requires.opened_of.form_is c.bounds_of-most.ensures in
+    let m = bounds_are _ c.args.t.now.opened_of.form_is c.bounds_of-most.ensures in
     let q = ap (λ (l : Limits). seconds_ok l c.subframe_at-f.result.numerator c.subframe_at-f.result.denominator) m ∙ ap₂ (seconds_ok (limits_in _)) e.numerator_is e.denominator_is in
     refuse _ (λ h. differ (sym q ∙ sym c.seconds_ok.ensures ∙ c.if-not-seconds_ok.true) (seconds_made (limits_in _) _ _ (subframe_law (limits_in _) _ h).seconds))
 
@@ -74,7 +74,7 @@ pub returns : goal.returns
 unfolding subframe_at
 returns c =
     let e = c.subframe_at-f.ensures in
-    let m = bounds_are _ c.requires.opened_of.form_is c.bounds_of-most.ensures in
+    let m = bounds_are _ c.args.t.now.opened_of.form_is c.bounds_of-most.ensures in
     let q = ap (λ (l : Limits). seconds_ok l c.subframe_at-f.result.numerator c.subframe_at-f.result.denominator) m ∙ ap₂ (seconds_ok (limits_in _)) e.numerator_is e.denominator_is in
     sym
     (subframe_made (limits_in _) _

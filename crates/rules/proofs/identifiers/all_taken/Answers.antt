@@ -14,14 +14,14 @@ loop-s-init c = record { within = omega arith; done = refl }
 pub returns-then-not-is_taken : goal.returns-then-not-is_taken
 unfolding all_taken
 returns-then-not-is_taken c =
-    let b = c.args.t.now in
+    let b = c.args.r.now.declared.table.bytes.now in
     let s = c.loop-s.s in
     let l : s < subframes_in b = omega arith in
     refuse _ (λ h. differ (sym c.is_taken.ensures ∙ c.if-not-is_taken.true) (all_below (subframes_in b) (is_taken b) h s l))
 
 pub loop-s-preserved : goal.loop-s-preserved
 loop-s-preserved c =
-    let b = c.args.t.now in
+    let b = c.args.r.now.declared.table.bytes.now in
     record {
       within = omega arith;
       done = all_more c.loop-s.s (is_taken b) c.loop-s.invariant.done (sym c.is_taken.ensures ∙ c.if-not-is_taken.false);
@@ -30,5 +30,5 @@ loop-s-preserved c =
 pub returns : goal.returns
 unfolding all_taken
 returns c =
-    let full : c.loop-s.s ≡ subframes_in c.args.t.now = omega arith in
+    let full : c.loop-s.s ≡ subframes_in c.args.r.now.declared.table.bytes.now = omega arith in
     sym (rw full at c.loop-s.invariant.done)

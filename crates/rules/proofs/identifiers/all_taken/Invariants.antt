@@ -2,7 +2,7 @@
 use mathlib.Core.Path.{◌≡◌}
 use mathlib.Core.Bool.{Bool, true}
 use mathlib.Core.List.{List}
-use Prim.Native.Nat.{ℕ, ◌+◌, ◌-◌, ◌≤◌}
+use Prim.Native.Nat.{ℕ, ◌+◌, ◌≤◌}
 use Rattle.lay.specs.Below.{all}
 use Rattle.model.specs.Identifiers.{taken}
 use Rattle.model.specs.Stored.{subframes_in}
@@ -17,7 +17,4 @@ pub record Passed (b : List ℕ) (s : ℕ) : Type 0 where
   pub done : all s (is_taken b) ≡ true
 
 abbrev pub invariant-loop-s : goal.invariant-loop-s
-invariant-loop-s l = Passed l.t l.s
-
-abbrev pub decreases-loop-s : goal.decreases-loop-s
-decreases-loop-s l = l.subframes - l.s
+invariant-loop-s l = Passed l.r.declared.table.bytes.now l.s

@@ -8,8 +8,8 @@ use Rattle.rules.proofs.identifiers.identified_apart.Goals as goal
 
 pub returns-then-d-e : goal.returns-then-d-e
 returns-then-d-e c =
-    let p = value_at c.args.t.now c.args.k in
-    let q = value_at c.args.t.now c.args.i in
+    let p = value_at c.args.r.now.declared.table.bytes.now c.args.k in
+    let q = value_at c.args.r.now.declared.table.bytes.now c.args.i in
     refuse _ (λ h. (identified_law _ _ h).value (omega arith))
 
 pub returns-then-lies_in : goal.returns-then-lies_in
@@ -17,6 +17,6 @@ returns-then-lies_in c = refuse _ (λ h. (identified_law _ _ h).place (omega ari
 
 pub returns : goal.returns
 returns c =
-    let p = value_at c.args.t.now c.args.k in
-    let q = value_at c.args.t.now c.args.i in
+    let p = value_at c.args.r.now.declared.table.bytes.now c.args.k in
+    let q = value_at c.args.r.now.declared.table.bytes.now c.args.i in
     sym (identified_made _ _ (record { value = λ h. omega arith; place = λ h. omega arith }))

@@ -18,7 +18,7 @@ use Rattle.rules.proofs.identifiers.identifier_ok.Goals as goal
 
 pub returns-then-e-ne1 : goal.returns-then-e-ne1
 returns-then-e-ne1 c =
-    let n = samples_at c.args.t.now c.args.i in
+    let n = samples_at c.args.r.now.declared.table.bytes.now c.args.i in
     refuse _ (λ h. let r = (identifier_law _ _ h).one in omega arith)
 
 pub returns-then-not-in_one_subframe : goal.returns-then-not-in_one_subframe
@@ -28,37 +28,37 @@ returns-then-not-in_one_subframe c = refuse _ (λ h. differ (sym c.in_one_subfra
 pub returns-then-has_signed : goal.returns-then-has_signed
 returns-then-has_signed c =
     let e = c.parameter_at-e.ensures.flags_is in
-    let x = signed_at c.args.t.now c.args.i ∙ sym (signed_flag _ _ e c.has_signed.ensures) ∙ c.if-has_signed.true in
+    let x = signed_at c.args.r.now.declared.table.bytes.now c.args.i ∙ sym (signed_flag _ _ e c.has_signed.ensures) ∙ c.if-has_signed.true in
     refuse _ (λ h. differ (identifier_law _ _ h).unsigned x)
 
 pub width_at-width-requires : goal.width_at-width-requires
 width_at-width-requires c =
     let r = c.requires in
-    let f = first _ _ r.ruled_by.ruled r.i_bound in
+    let f = first _ _ c.args.r.now.ruled c.requires.i_bound in
     let e = c.parameter_at-e.ensures.first_is in
-    record { opened_of = r.ruled_by.opened; sample_here = rw e f.here; subframes_law = r.ruled_by.ruled.subframes; pieces_here = rw e f.pieces }
+    record { sample_here = rw e f.here; pieces_here = rw e f.pieces }
 
 pub power_of_two-requires : goal.power_of_two-requires
 power_of_two-requires c =
     let r = c.requires in
-    let f = first _ _ r.ruled_by.ruled r.i_bound in
+    let f = first _ _ c.args.r.now.ruled c.requires.i_bound in
     let w = c.width_at-width.ensures.0 ∙ first_width _ _ f _ c.parameter_at-e.ensures in
     omega arith
 
 pub returns-then-power_of_two-e : goal.returns-then-power_of_two-e
 returns-then-power_of_two-e c =
-    let f = first _ _ c.requires.ruled_by.ruled c.requires.i_bound in
+    let f = first _ _ c.args.r.now.ruled c.requires.i_bound in
     let w = c.width_at-width.ensures.0 ∙ first_width _ _ f _ c.parameter_at-e.ensures in
     let p = c.power_of_two.ensures ∙ ap (λ (n : ℕ). 2 ^ n) w in
-    let v = value_at c.args.t.now c.args.i in
+    let v = value_at c.args.r.now.declared.table.bytes.now c.args.i in
     refuse _ (λ h. let x = (identifier_law _ _ h).fits in omega arith)
 
 pub returns : goal.returns
 unfolding identifier_ok in_one_subframe
 returns c =
-    let b = c.args.t.now in
+    let b = c.args.r.now.declared.table.bytes.now in
     let i = c.args.i in
-    let f = first b i c.requires.ruled_by.ruled c.requires.i_bound in
+    let f = first b i c.args.r.now.ruled c.requires.i_bound in
     let e = c.parameter_at-e.ensures in
     let w = c.width_at-width.ensures.0 ∙ first_width b i f _ e in
     let p = c.power_of_two.ensures ∙ ap (λ (n : ℕ). 2 ^ n) w in

@@ -2,7 +2,7 @@
 use mathlib.Core.Path.{◌≡◌}
 use mathlib.Core.Bool.{true}
 use mathlib.Core.List.{List}
-use Prim.Native.Nat.{ℕ, ◌-◌, ◌≤◌}
+use Prim.Native.Nat.{ℕ, ◌≤◌}
 use Rattle.lay.specs.Below.{all}
 use Rattle.model.specs.Identifiers.{identifies}
 use Rattle.model.specs.Stored.{parameters_in}
@@ -14,7 +14,4 @@ pub record Passed (b : List ℕ) (i : ℕ) : Type 0 where
   pub done : all i (identifies (view b)) ≡ true
 
 abbrev pub invariant-loop-i : goal.invariant-loop-i
-invariant-loop-i l = Passed l.t l.i
-
-abbrev pub decreases-loop-i : goal.decreases-loop-i
-decreases-loop-i l = l.parameters - l.i
+invariant-loop-i l = Passed l.r.declared.table.bytes.now l.i

@@ -18,16 +18,16 @@ loop-k-init c = record { within = omega arith; done = refl }
 pub component_at-c-requires : goal.component_at-c-requires
 component_at-c-requires c =
     let r = c.requires in
-    let f = first _ _ r.ruled_by.ruled r.i_bound in
-    record { opened_of = r.ruled_by.opened; k_bound = omega arith }
+    let f = first _ _ c.args.r.now.ruled c.requires.i_bound in
+    record { k_bound = omega arith }
 
 pub returns-then-c-home : goal.returns-then-c-home
 unfolding in_one_subframe
 returns-then-c-home c =
-    let b = c.args.t.now in
+    let b = c.args.r.now.declared.table.bytes.now in
     let i = c.args.i in
     let k = c.loop-k.k in
-    let f = first b i c.requires.ruled_by.ruled c.requires.i_bound in
+    let f = first b i c.args.r.now.ruled c.requires.i_bound in
     let n = f.count in
     let e = first_home b i f k _ _ (omega arith) c.first_sample-s.ensures c.component_at-c.ensures in
     refuse _
@@ -38,10 +38,10 @@ returns-then-c-home c =
 
 pub loop-k-preserved : goal.loop-k-preserved
 loop-k-preserved c =
-    let b = c.args.t.now in
+    let b = c.args.r.now.declared.table.bytes.now in
     let i = c.args.i in
     let k = c.loop-k.k in
-    let f = first b i c.requires.ruled_by.ruled c.requires.i_bound in
+    let f = first b i c.args.r.now.ruled c.requires.i_bound in
     let e = first_home b i f k _ _ (omega arith) c.first_sample-s.ensures c.component_at-c.ensures in
     let x : (component (sample (parameter_at b i) 0) k).subframe ≡ lies (parameter_at b i) = omega arith in
     record { within = omega arith; done = all_more k (at_home b i) c.loop-k.invariant.done (eq-eqb _ _ x) }
@@ -49,9 +49,9 @@ loop-k-preserved c =
 pub returns : goal.returns
 unfolding in_one_subframe
 returns c =
-    let b = c.args.t.now in
+    let b = c.args.r.now.declared.table.bytes.now in
     let i = c.args.i in
-    let f = first b i c.requires.ruled_by.ruled c.requires.i_bound in
+    let f = first b i c.args.r.now.ruled c.requires.i_bound in
     let n = f.count in
     let full : c.loop-k.k ≡ length (sample (parameter_at b i) 0).components = omega arith in
     sym (rw full at c.loop-k.invariant.done)

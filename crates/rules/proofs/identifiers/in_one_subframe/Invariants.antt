@@ -2,7 +2,7 @@
 use mathlib.Core.Path.{◌≡◌}
 use mathlib.Core.Bool.{Bool, true}
 use mathlib.Core.List.{List}
-use Prim.Native.Nat.{ℕ, ◌-◌, ◌≤◌}
+use Prim.Native.Nat.{ℕ, ◌≤◌}
 use lib.Dec.{eqb}
 use Rattle.lay.specs.Below.{all}
 use Rattle.model.specs.Content.{sample, component}
@@ -18,7 +18,4 @@ pub record Passed (b : List ℕ) (i count k : ℕ) : Type 0 where
   pub done : all k (at_home b i) ≡ true
 
 abbrev pub invariant-loop-k : goal.invariant-loop-k
-invariant-loop-k l = Passed l.t l.i l.count l.k
-
-abbrev pub decreases-loop-k : goal.decreases-loop-k
-decreases-loop-k l = l.count - l.k
+invariant-loop-k l = Passed l.r.declared.table.bytes.now l.i l.count l.k

@@ -18,7 +18,7 @@ loop-i-init c = record { within = omega arith; none = refl }
 
 pub returns-then-lies_in-s : goal.returns-then-lies_in-s
 returns-then-lies_in-s c =
-    let b = c.args.t.now in
+    let b = c.args.r.now.declared.table.bytes.now in
     let s = c.args.s in
     let i = c.loop-i.i in
     let l : i < parameters_in b = omega arith in
@@ -27,7 +27,7 @@ returns-then-lies_in-s c =
 
 pub loop-i-preserved : goal.loop-i-preserved
 loop-i-preserved c =
-    let b = c.args.t.now in
+    let b = c.args.r.now.declared.table.bytes.now in
     let s = c.args.s in
     let i = c.loop-i.i in
     let e = c.is_identifier.ensures in
@@ -40,6 +40,6 @@ loop-i-preserved c =
 
 pub returns : goal.returns
 returns c =
-    let b = c.args.t.now in
+    let b = c.args.r.now.declared.table.bytes.now in
     let full : c.loop-i.i ≡ parameters_in b = omega arith in
     sym (taken_at b c.args.s ∙ rw full at c.loop-i.invariant.none)

@@ -2,7 +2,7 @@
 use mathlib.Core.Path.{◌≡◌}
 use mathlib.Core.Bool.{false}
 use mathlib.Core.List.{List}
-use Prim.Native.Nat.{ℕ, ◌-◌, ◌≤◌}
+use Prim.Native.Nat.{ℕ, ◌≤◌}
 use Rattle.lay.specs.Below.{any}
 use Rattle.model.specs.Stored.{parameters_in}
 use Rattle.rules.proofs.Identifying.{takes}
@@ -13,7 +13,4 @@ pub record Passed (b : List ℕ) (s i : ℕ) : Type 0 where
   pub none : any i (takes b s) ≡ false
 
 abbrev pub invariant-loop-i : goal.invariant-loop-i
-invariant-loop-i l = Passed l.t l.s l.i
-
-abbrev pub decreases-loop-i : goal.decreases-loop-i
-decreases-loop-i l = l.parameters - l.i
+invariant-loop-i l = Passed l.r.declared.table.bytes.now l.s l.i

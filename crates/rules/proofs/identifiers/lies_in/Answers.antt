@@ -8,11 +8,11 @@ use Rattle.rules.proofs.identifiers.lies_in.Goals as goal
 pub component_at-c-requires : goal.component_at-c-requires
 component_at-c-requires c =
     let r = c.requires in
-    let f = first _ _ r.ruled_by.ruled r.i_bound in
-    record { opened_of = r.ruled_by.opened; k_bound = omega arith }
+    let f = first _ _ c.args.r.now.ruled c.requires.i_bound in
+    record { k_bound = omega arith }
 
 pub returns : goal.returns
 returns c =
     c.component_at-c.ensures.subframe_is
-    ∙ ap (home_in c.args.t.now) c.first_sample-s.ensures.first_is
-    ∙ sym (first _ _ c.requires.ruled_by.ruled c.requires.i_bound).home
+    ∙ ap (home_in c.args.r.now.declared.table.bytes.now) c.first_sample-s.ensures.first_is
+    ∙ sym (first _ _ c.args.r.now.ruled c.requires.i_bound).home

@@ -14,21 +14,15 @@ loop-k-init c = record { within = omega arith; done = refl }
 pub returns-then-not-identified_apart : goal.returns-then-not-identified_apart
 unfolding newly_identified
 returns-then-not-identified_apart c =
-    let b = c.args.t.now in
+    let b = c.args.r.now.declared.table.bytes.now in
     let i = c.args.i in
     let k = c.loop-k.k in
     let x : apart_from b i k ≡ false = rw (sym c.is_identifier.ensures ∙ c.if-is_identifier.true, sym c.identified_apart.ensures ∙ c.if-not-identified_apart.true) in
     refuse _ (λ h. differ x (all_below i (apart_from b i) h k (omega arith)))
 
-pub overflow_add-k : goal.overflow_add-k
-overflow_add-k c = omega arith
-
-pub loop-k-smaller : goal.loop-k-smaller
-loop-k-smaller c = omega arith
-
 pub loop-k-preserved : goal.loop-k-preserved
 loop-k-preserved c =
-    let b = c.args.t.now in
+    let b = c.args.r.now.declared.table.bytes.now in
     let i = c.args.i in
     let k = c.loop-k.k in
     let e = c.is_identifier.ensures in

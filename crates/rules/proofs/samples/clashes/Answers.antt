@@ -8,10 +8,10 @@ use Rattle.rules.proofs.Clashes.{clash_law, clash_made}
 use Rattle.rules.proofs.samples.clashes.Goals as goal
 
 pub component_at-c-requires : goal.component_at-c-requires
-component_at-c-requires c = record { opened_of = c.requires.opened_of; k_bound = c.requires.k_bound }
+component_at-c-requires c = record { k_bound = c.requires.k_bound }
 
 pub component_at-d-requires : goal.component_at-d-requires
-component_at-d-requires c = record { opened_of = c.requires.opened_of; k_bound = c.requires.i_bound }
+component_at-d-requires c = record { k_bound = c.requires.i_bound }
 
 pub returns-then-c-d : goal.returns-then-c-d
 unfolding component_at

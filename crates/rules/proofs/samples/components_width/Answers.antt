@@ -52,7 +52,7 @@ adds {b} {j} {first} {count} {width'} {k} {t} {e} f v l q n r =
     }
 
 pub sample_at-s-requires : goal.sample_at-s-requires
-sample_at-s-requires c = record { opened_of = c.requires.opened_of; j_bound = c.requires.sample_here.here }
+sample_at-s-requires c = record { j_bound = c.requires.sample_here.here }
 
 pub loop-k-init : goal.loop-k-init
 unfolding width_of
@@ -71,12 +71,12 @@ loop-k-init c =
 pub in_order-requires : goal.in_order-requires
 in_order-requires c =
     let p = c.requires in
-    record { opened_of = p.opened_of; sample_here = p.sample_here; k_bound = omega (arith, c.loop-k.invariant.counted, c.loop-k-test.true) }
+    record { sample_here = p.sample_here; k_bound = omega (arith, c.loop-k.invariant.counted, c.loop-k-test.true) }
 
 pub returns-then-not-in_order : goal.returns-then-not-in_order
 unfolding components_ok
 returns-then-not-in_order c =
-    let b = c.args.t.now in
+    let b = c.args.d.now.table.bytes.now in
     let j = c.args.j in
     let v = c.loop-k.invariant in
     components_none b j
@@ -88,40 +88,34 @@ overflow_add-first c = omega (arith, c.loop-k.invariant.few, c.loop-k-test.true,
 pub component_at-c-requires : goal.component_at-c-requires
 component_at-c-requires c =
     let v = c.loop-k.invariant in
-    record { opened_of = c.requires.opened_of; k_bound = omega (arith, v.firsts, v.counted, c.loop-k-test.true, c.requires.sample_here.components) }
+    record { k_bound = omega (arith, v.firsts, v.counted, c.loop-k-test.true, c.requires.sample_here.components) }
 
 pub overflow_add-width : goal.overflow_add-width
 overflow_add-width c = omega (arith, c.component_at-c.ensures.high_below)
 
 pub overflow_sub-width : goal.overflow_sub-width
 overflow_sub-width c =
-    let a = adds c.requires.subframes_law c.loop-k.invariant c.loop-k-test.true c.in_order.ensures (ap not c.if-not-in_order.false) c.component_at-c.ensures in
+    let a = adds c.args.d.now.subframes_law c.loop-k.invariant c.loop-k-test.true c.in_order.ensures (ap not c.if-not-in_order.false) c.component_at-c.ensures in
     omega (arith, a.rising)
 
 pub overflow_sub-width-in-loop-k : goal.overflow_sub-width-in-loop-k
 overflow_sub-width-in-loop-k c =
-    let a = adds c.requires.subframes_law c.loop-k.invariant c.loop-k-test.true c.in_order.ensures (ap not c.if-not-in_order.false) c.component_at-c.ensures in
+    let a = adds c.args.d.now.subframes_law c.loop-k.invariant c.loop-k-test.true c.in_order.ensures (ap not c.if-not-in_order.false) c.component_at-c.ensures in
     omega (arith, a.lapped)
 
 pub overflow_add-width-in-loop-k : goal.overflow_add-width-in-loop-k
 overflow_add-width-in-loop-k c =
     let v = c.loop-k.invariant in
-    let a = adds c.requires.subframes_law v c.loop-k-test.true c.in_order.ensures (ap not c.if-not-in_order.false) c.component_at-c.ensures in
+    let a = adds c.args.d.now.subframes_law v c.loop-k-test.true c.in_order.ensures (ap not c.if-not-in_order.false) c.component_at-c.ensures in
     omega (arith, v.low, v.few, v.within, a.small, a.rising, a.lapped)
-
-pub overflow_add-k : goal.overflow_add-k
-overflow_add-k c = omega (arith, c.loop-k.invariant.few, c.loop-k-test.true)
-
-pub loop-k-smaller : goal.loop-k-smaller
-loop-k-smaller c = omega (arith, c.loop-k-test.true)
 
 pub loop-k-preserved : goal.loop-k-preserved
 loop-k-preserved c =
-    let b = c.args.t.now in
+    let b = c.args.d.now.table.bytes.now in
     let j = c.args.j in
     let v = c.loop-k.invariant in
     let l = c.loop-k-test.true in
-    let a = adds c.requires.subframes_law v l c.in_order.ensures (ap not c.if-not-in_order.false) c.component_at-c.ensures in
+    let a = adds c.args.d.now.subframes_law v l c.in_order.ensures (ap not c.if-not-in_order.false) c.component_at-c.ensures in
     record {
       firsts = v.firsts;
       counted = v.counted;
@@ -135,7 +129,7 @@ loop-k-preserved c =
 pub returns : goal.returns
 unfolding components_ok
 returns c =
-    let b = c.args.t.now in
+    let b = c.args.d.now.table.bytes.now in
     let j = c.args.j in
     let v = c.loop-k.invariant in
     let full : c.loop-k.k ≡ component_count_in b j = omega (arith, v.counted, v.within, c.loop-k-test.false) in

@@ -2,7 +2,7 @@
 use mathlib.Core.Path.{◌≡◌}
 use mathlib.Core.Bool.{true}
 use mathlib.Core.List.{List}
-use Prim.Native.Nat.{ℕ, ◌+◌, ◌-◌, ◌*◌, ◌≤◌}
+use Prim.Native.Nat.{ℕ, ◌+◌, ◌*◌, ◌≤◌}
 use Rattle.lay.specs.Below.{all}
 use Rattle.sample.specs.Joining.{width}
 use Rattle.model.specs.Forms.{sheet_limits}
@@ -23,7 +23,4 @@ pub record Passed (b : List ℕ) (j first count width' k : ℕ) : Type 0 where
   pub sums : width' + width (left b j k) ≡ width_of (subframes_of b) (sample_at b j)
 
 abbrev pub invariant-loop-k : goal.invariant-loop-k
-invariant-loop-k l = Passed l.t l.j l.first l.count l.width l.k
-
-abbrev pub decreases-loop-k : goal.decreases-loop-k
-decreases-loop-k l = l.count - l.k
+invariant-loop-k l = Passed l.d.table.bytes.now l.j l.first l.count l.width l.k

@@ -16,39 +16,39 @@ use Rattle.rules.proofs.Widths.{measured, unlawful, lawful_is, some_width}
 use Rattle.rules.proofs.samples.lawful_width.Goals as goal
 
 pub bounds_of-most-requires : goal.bounds_of-most-requires
-bounds_of-most-requires c = known_here c.requires.opened_of.sized.formed c.requires.opened_of.form_is
+bounds_of-most-requires c = known_here c.args.d.now.table.opened_of.sized.formed c.args.d.now.table.opened_of.form_is
 
 pub sample_at-s-requires : goal.sample_at-s-requires
-sample_at-s-requires c = record { opened_of = c.requires.opened_of; j_bound = c.requires.sample_here.here }
+sample_at-s-requires c = record { j_bound = c.requires.sample_here.here }
 
 pub returns-then-most-s : goal.returns-then-most-s
 unfolding sample_at
-returns-then-most-s c = unlawful _ _ (λ r. omega (arith, r.time, c.sample_at-s.ensures.time_is, ap (λ (l : Limits). l.time) (bounds_are _ c.requires.opened_of.form_is c.bounds_of-most.ensures), c.if-most-s.true))
+returns-then-most-s c = unlawful _ _ (λ r. omega (arith, r.time, c.sample_at-s.ensures.time_is, ap (λ (l : Limits). l.time) (bounds_are _ c.args.d.now.table.opened_of.form_is c.bounds_of-most.ensures), c.if-most-s.true))
 
 pub returns-then-s-lt1 : goal.returns-then-s-lt1
-returns-then-s-lt1 c = unlawful _ _ (λ r. omega (arith, r.some, c.sample_at-s.ensures.count_is, components_at c.args.t.now c.args.j, c.if-s-lt1.true))
+returns-then-s-lt1 c = unlawful _ _ (λ r. omega (arith, r.some, c.sample_at-s.ensures.count_is, components_at c.args.d.now.table.bytes.now c.args.j, c.if-s-lt1.true))
 
 pub returns-then-most-s-2 : goal.returns-then-most-s-2
-returns-then-most-s-2 c = unlawful _ _ (λ r. omega (arith, r.few, c.sample_at-s.ensures.count_is, components_at c.args.t.now c.args.j, ap (λ (l : Limits). l.components_each) (bounds_are _ c.requires.opened_of.form_is c.bounds_of-most.ensures), c.if-most-s-2.true))
+returns-then-most-s-2 c = unlawful _ _ (λ r. omega (arith, r.few, c.sample_at-s.ensures.count_is, components_at c.args.d.now.table.bytes.now c.args.j, ap (λ (l : Limits). l.components_each) (bounds_are _ c.args.d.now.table.opened_of.form_is c.bounds_of-most.ensures), c.if-most-s-2.true))
 
 pub components_width-width-requires : goal.components_width-width-requires
 components_width-width-requires c =
-    let w = (limits_within _ c.requires.opened_of.sized.formed).components_each in
-    record { opened_of = c.requires.opened_of; sample_here = c.requires.sample_here; subframes_law = c.requires.subframes_law; j_bound = omega (arith, w, c.sample_at-s.ensures.count_is, ap (λ (l : Limits). l.components_each) (bounds_are _ c.requires.opened_of.form_is c.bounds_of-most.ensures), c.if-most-s-2.false) }
+    let w = (limits_within _ c.args.d.now.table.opened_of.sized.formed).components_each in
+    record { sample_here = c.requires.sample_here; j_bound = omega (arith, w, c.sample_at-s.ensures.count_is, ap (λ (l : Limits). l.components_each) (bounds_are _ c.args.d.now.table.opened_of.form_is c.bounds_of-most.ensures), c.if-most-s-2.false) }
 
 pub returns-then-width-eq0 : goal.returns-then-width-eq0
-returns-then-width-eq0 c = unlawful _ _ (λ r. some_width _ _ c.requires.subframes_law.within r (sym c.components_width-width.ensures ∙ c.if-width-eq0.true))
+returns-then-width-eq0 c = unlawful _ _ (λ r. some_width _ _ c.args.d.now.subframes_law.within r (sym c.components_width-width.ensures ∙ c.if-width-eq0.true))
 
 pub returns-then-most-width : goal.returns-then-most-width
 returns-then-most-width c =
     let m = measured _ _ (λ z. c.if-width-eq0.false (c.components_width-width.ensures ∙ z)) in
-    unlawful _ _ (λ r. omega (arith, r.narrow, m.1, c.components_width-width.ensures, ap (λ (l : Limits). l.width) (bounds_are _ c.requires.opened_of.form_is c.bounds_of-most.ensures), c.if-most-width.true))
+    unlawful _ _ (λ r. omega (arith, r.narrow, m.1, c.components_width-width.ensures, ap (λ (l : Limits). l.width) (bounds_are _ c.args.d.now.table.opened_of.form_is c.bounds_of-most.ensures), c.if-most-width.true))
 
 pub named_twice-requires : goal.named_twice-requires
 named_twice-requires c =
-    let w = (limits_within _ c.requires.opened_of.sized.formed).components_each in
+    let w = (limits_within _ c.args.d.now.table.opened_of.sized.formed).components_each in
     let m = measured _ _ (λ z. c.if-width-eq0.false (c.components_width-width.ensures ∙ z)) in
-    record { opened_of = c.requires.opened_of; sample_here = c.requires.sample_here; pieces_here = tested _ _ m.0 (omega (arith, w, c.sample_at-s.ensures.count_is, ap (λ (l : Limits). l.components_each) (bounds_are _ c.requires.opened_of.form_is c.bounds_of-most.ensures), c.if-most-s-2.false)) }
+    record { sample_here = c.requires.sample_here; pieces_here = tested _ _ m.0 (omega (arith, w, c.sample_at-s.ensures.count_is, ap (λ (l : Limits). l.components_each) (bounds_are _ c.args.d.now.table.opened_of.form_is c.bounds_of-most.ensures), c.if-most-s-2.false)) }
 
 pub returns-then-named_twice : goal.returns-then-named_twice
 returns-then-named_twice c = unlawful _ _ (λ r. differ r.once (sym c.named_twice.ensures ∙ c.if-named_twice.true))
@@ -56,11 +56,11 @@ returns-then-named_twice c = unlawful _ _ (λ r. differ r.once (sym c.named_twic
 pub returns : goal.returns
 unfolding sample_at
 returns c =
-    let b = c.args.t.now in
+    let b = c.args.d.now.table.bytes.now in
     let j = c.args.j in
-    let w = (limits_within _ c.requires.opened_of.sized.formed).components_each in
+    let w = (limits_within _ c.args.d.now.table.opened_of.sized.formed).components_each in
     let m = measured _ _ (λ z. c.if-width-eq0.false (c.components_width-width.ensures ∙ z)) in
-    let most = bounds_are _ c.requires.opened_of.form_is c.bounds_of-most.ensures in
+    let most = bounds_are _ c.args.d.now.table.opened_of.form_is c.bounds_of-most.ensures in
     let s = c.sample_at-s.ensures in
     let h = tested _ _ m.0 (omega (arith, w, s.count_is, ap (λ (l : Limits). l.components_each) most, c.if-most-s-2.false)) in
     let some : 1 ≤ length (sample_at b j).components = omega (arith, s.count_is, components_at b j, c.if-s-lt1.false) in

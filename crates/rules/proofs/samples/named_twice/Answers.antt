@@ -27,29 +27,22 @@ last (c ∷ []) n h = h
 last (c ∷ d ∷ ds) n h = absurd (omega (arith, n))
 
 pub sample_at-s-requires : goal.sample_at-s-requires
-sample_at-s-requires c = record { opened_of = c.requires.opened_of; j_bound = c.requires.sample_here.here }
+sample_at-s-requires c = record { j_bound = c.requires.sample_here.here }
 
-pub walk-init : goal.walk-init
-walk-init c =
-    record { firsts = c.sample_at-s.ensures.first_is; counted = c.sample_at-s.ensures.count_is; within = omega arith; clear = refl; rest = refl }
-
-pub overflow_add-k : goal.overflow_add-k
-overflow_add-k c = omega (arith, c.walk.invariant, c.sample_at-s.ensures.count_below)
-
-pub overflow_add-i : goal.overflow_add-i
-overflow_add-i c = omega (arith, c.walk.invariant, c.sample_at-s.ensures.count_below)
+pub loop-k-init : goal.loop-k-init
+loop-k-init c =
+    record { firsts = c.sample_at-s.ensures.first_is; counted = c.sample_at-s.ensures.count_is; within = omega arith; rest = refl }
 
 pub loop-i-init : goal.loop-i-init
 loop-i-init c =
-    let w = c.walk.invariant in
-    let l = c.walk-test.true in
+    let w = c.loop-k.invariant in
+    let l = c.loop-k-test.true in
     record {
       firsts = w.firsts;
       counted = w.counted;
       inside = omega (arith, l);
       within = omega (arith, l);
-      clear = w.clear;
-      rest = twice_row _ _ _ (whole_next c.args.t.now c.args.j c.walk.k (omega (arith, w, l))) w.rest;
+      rest = twice_row _ _ _ (whole_next c.args.t.now.bytes.now c.args.j c.loop-k.k (omega (arith, w, l))) w.rest;
     }
 
 pub overflow_add-first : goal.overflow_add-first
@@ -61,18 +54,12 @@ overflow_add-first-in-loop-i c = omega (arith, c.loop-i.invariant, c.loop-i-test
 pub clashes-requires : goal.clashes-requires
 clashes-requires c =
     let v = c.loop-i.invariant in
-    let b = c.args.t.now in
+    let b = c.args.t.now.bytes.now in
     let h = c.requires.pieces_here in
     let s = c.requires.sample_here.components in
     let law : (k : ℕ) → k < component_count_in b c.args.j → ComponentLaw (subframes_of b) (component_at b (c.sample_at-s.result.first + k)) =
     λ k l. subst (λ (f : ℕ). ComponentLaw (subframes_of b) (component_at b (f + k))) (sym v.firsts) (h.each k l) in
-    record { opened_of = c.requires.opened_of; k_bound = omega (arith, v.firsts, v.counted, v.inside, s); i_bound = omega (arith, v.firsts, v.counted, c.loop-i-test.true, s); component_law = law c.walk.k (omega (arith, v.counted, v.inside)); component_law_2 = law c.loop-i.i (omega (arith, v.counted, c.loop-i-test.true)) }
-
-pub overflow_add-i-in-loop-i : goal.overflow_add-i-in-loop-i
-overflow_add-i-in-loop-i c = omega (arith, c.loop-i.invariant, c.loop-i-test.true, c.sample_at-s.ensures)
-
-pub loop-i-smaller : goal.loop-i-smaller
-loop-i-smaller c = omega (arith, c.loop-i-test.true)
+    record { k_bound = omega (arith, v.firsts, v.counted, v.inside, s); i_bound = omega (arith, v.firsts, v.counted, c.loop-i-test.true, s); component_law = law c.loop-k.k (omega (arith, v.counted, v.inside)); component_law_2 = law c.loop-i.i (omega (arith, v.counted, c.loop-i-test.true)) }
 
 pub loop-i-preserved : goal.loop-i-preserved
 loop-i-preserved c =
@@ -83,33 +70,25 @@ loop-i-preserved c =
       counted = v.counted;
       inside = v.inside;
       within = omega (arith, l);
-      clear = v.clear;
-      rest = row_apart _ _ _ _ _ (whole_next c.args.t.now c.args.j c.loop-i.i (omega (arith, v.counted, l))) (clashed c.args.t.now c.args.j c.sample_at-s.result.first c.walk.k c.loop-i.i v.firsts c.clashes.ensures) v.rest c.if-clashes.false;
+      rest = row_apart _ _ _ _ _ (whole_next c.args.t.now.bytes.now c.args.j c.loop-i.i (omega (arith, v.counted, l))) (clashed c.args.t.now.bytes.now c.args.j c.sample_at-s.result.first c.loop-k.k c.loop-i.i v.firsts c.clashes.ensures) v.rest c.if-clashes.false;
     }
 
-pub overflow_add-k-in-walk : goal.overflow_add-k-in-walk
-overflow_add-k-in-walk c = omega (arith, c.loop-i.invariant, c.sample_at-s.ensures)
-
-pub walk-smaller : goal.walk-smaller
-walk-smaller c = omega (arith, c.walk-test.true)
-
-pub walk-preserved : goal.walk-preserved
-walk-preserved c =
+pub loop-k-preserved : goal.loop-k-preserved
+loop-k-preserved c =
     let v = c.loop-i.invariant in
     record {
       firsts = v.firsts;
       counted = v.counted;
       within = omega (arith, v.inside);
-      clear = v.clear;
-      rest = row_done _ _ _ (whole_none c.args.t.now c.args.j c.loop-i.i (omega (arith, v.counted, c.loop-i-test.false))) v.rest;
+      rest = row_done _ _ _ (whole_none c.args.t.now.bytes.now c.args.j c.loop-i.i (omega (arith, v.counted, c.loop-i-test.false))) v.rest;
     }
 
-pub returns-after-walk : goal.returns-after-walk
-returns-after-walk c =
-    let w = c.walk.invariant in
-    w.clear ∙ last _ (omega (arith, wholes_left c.args.t.now c.args.j c.walk.k, w.counted, c.walk-test.false)) w.rest
+pub returns : goal.returns
+returns c =
+    let w = c.loop-k.invariant in
+    last _ (omega (arith, wholes_left c.args.t.now.bytes.now c.args.j c.loop-k.k, w.counted, c.loop-k-test.false)) w.rest
 
 pub returns-then-clashes : goal.returns-then-clashes
 returns-then-clashes c =
     let v = c.loop-i.invariant in
-    row_found _ _ _ _ _ (whole_next c.args.t.now c.args.j c.loop-i.i (omega (arith, v.counted, c.loop-i-test.true))) (clashed c.args.t.now c.args.j c.sample_at-s.result.first c.walk.k c.loop-i.i v.firsts c.clashes.ensures) v.rest c.if-clashes.true
+    row_found _ _ _ _ _ (whole_next c.args.t.now.bytes.now c.args.j c.loop-i.i (omega (arith, v.counted, c.loop-i-test.true))) (clashed c.args.t.now.bytes.now c.args.j c.sample_at-s.result.first c.loop-k.k c.loop-i.i v.firsts c.clashes.ensures) v.rest c.if-clashes.true

@@ -1,8 +1,8 @@
--- Each component is held against those after it; the walk is left where two clash.
+-- Each component is held against those after it.
 use mathlib.Core.Path.{◌≡◌}
-use mathlib.Core.Bool.{Bool, false, ◌||◌}
+use mathlib.Core.Bool.{Bool, ◌||◌}
 use mathlib.Core.List.{List}
-use Prim.Native.Nat.{ℕ, ◌+◌, ◌-◌, ◌≤◌, ◌<◌}
+use Prim.Native.Nat.{ℕ, ◌+◌, ◌≤◌, ◌<◌}
 use Rattle.sample.specs.Clash.{clash_any, twice}
 use Rattle.model.specs.Samples.{wholes}
 use Rattle.model.specs.Stored.{first_component_in, component_count_in}
@@ -15,29 +15,21 @@ use Rattle.rules.proofs.samples.named_twice.Given as goal
 abbrev pub told : List ℕ → ℕ → Bool
 told b j = twice (wholes (subframes_of b) (sample_at b j))
 
-pub record Outer (b : List ℕ) (j first count : ℕ) (found : Bool) (k : ℕ) : Type 0 where
+pub record Outer (b : List ℕ) (j first count : ℕ) (k : ℕ) : Type 0 where
   pub firsts : first ≡ first_component_in b j
   pub counted : count ≡ component_count_in b j
   pub within : k ≤ count
-  pub clear : found ≡ false
   pub rest : twice (left_whole b j k) ≡ told b j
 
-pub record Inner (b : List ℕ) (j first count k : ℕ) (found : Bool) (i : ℕ) : Type 0 where
+pub record Inner (b : List ℕ) (j first count k : ℕ) (i : ℕ) : Type 0 where
   pub firsts : first ≡ first_component_in b j
   pub counted : count ≡ component_count_in b j
   pub inside : k < count
   pub within : i ≤ count
-  pub clear : found ≡ false
   pub rest : (clash_any (stands_whole b j k) (left_whole b j i) || twice (left_whole b j (k + 1))) ≡ told b j
 
 abbrev pub invariant-loop-i : goal.invariant-loop-i
-invariant-loop-i l = Inner l.t l.j l.first l.count l.k l.found l.i
+invariant-loop-i l = Inner l.t.bytes.now l.j l.first l.count l.k l.i
 
-abbrev pub decreases-loop-i : goal.decreases-loop-i
-decreases-loop-i l = l.count - l.i
-
-abbrev pub invariant-walk : goal.invariant-walk
-invariant-walk l = Outer l.t l.j l.first l.count l.found l.k
-
-abbrev pub decreases-walk : goal.decreases-walk
-decreases-walk l = l.count - l.k
+abbrev pub invariant-loop-k : goal.invariant-loop-k
+invariant-loop-k l = Outer l.t.bytes.now l.j l.first l.count l.k

@@ -28,21 +28,18 @@ loop-k-init c =
 
 pub piece_at-c-requires : goal.piece_at-c-requires
 piece_at-c-requires c =
-    let b = c.args.t.now in
+    let b = c.args.d.now.table.bytes.now in
     let v = c.loop-k.invariant in
     let l = c.loop-k-test.true in
     let h = c.requires.pieces_here in
-    record { opened_of = c.requires.opened_of; k_bound = omega (arith, v, l, c.requires.sample_here); subframes_law = c.requires.subframes_law; bases_of = c.requires.bases_of; component_law = subst (λ (f : ℕ). ComponentLaw (subframes_of b) (component_at b (f + c.loop-k.k))) (sym v.firsts) (h.each c.loop-k.k (omega (arith, v, l))) }
+    record { k_bound = omega (arith, v, l, c.requires.sample_here); component_law = subst (λ (f : ℕ). ComponentLaw (subframes_of b) (component_at b (f + c.loop-k.k))) (sym v.firsts) (h.each c.loop-k.k (omega (arith, v, l))) }
 
 pub with-cs-requires : goal.with-cs-requires
 with-cs-requires c = omega (arith, c.loop-k.invariant, c.loop-k-test.true, c.requires.pieces_here)
 
-pub loop-k-smaller : goal.loop-k-smaller
-loop-k-smaller c = omega (arith, c.loop-k.invariant, c.loop-k-test.true)
-
 pub loop-k-preserved : goal.loop-k-preserved
 loop-k-preserved c =
-    let b = c.args.t.now in
+    let b = c.args.d.now.table.bytes.now in
     let v = c.loop-k.invariant in
     let k = c.loop-k.k in
     let one : k + 1 ≡ suc k = omega arith in
@@ -61,7 +58,7 @@ loop-k-preserved c =
 pub returns : goal.returns
 unfolding pieces
 returns c =
-    let b = c.args.t.now in
+    let b = c.args.d.now.table.bytes.now in
     let j = c.args.j in
     let v = c.loop-k.invariant in
     let full : c.loop-k.k ≡ component_count_in b j = omega (arith, v, c.loop-k-test.false) in

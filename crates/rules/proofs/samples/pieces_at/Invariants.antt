@@ -1,7 +1,7 @@
 -- The components before k are held, in their order.
 use mathlib.Core.Path.{◌≡◌}
 use mathlib.Core.List.{List}
-use Prim.Native.Nat.{ℕ, ◌+◌, ◌-◌, ◌≤◌}
+use Prim.Native.Nat.{ℕ, ◌+◌, ◌≤◌}
 use Rattle.lay.specs.Below.{tab}
 use Rattle.sample.specs.declared.component.Component.{Component}
 use Rattle.sample.specs.declared.component.Components.{Components}
@@ -24,7 +24,4 @@ pub record Passed (b : List ℕ) (j first count : ℕ) (cs : Components) (k : �
   pub held : listed cs ≡ tab k (λ k. stands b (first_component_in b j + k))
 
 abbrev pub invariant-loop-k : goal.invariant-loop-k
-invariant-loop-k l = Passed l.t l.j l.first l.count l.cs l.k
-
-abbrev pub decreases-loop-k : goal.decreases-loop-k
-decreases-loop-k l = l.count - l.k
+invariant-loop-k l = Passed l.d.table.bytes.now l.j l.first l.count l.cs l.k

@@ -38,7 +38,7 @@ module _ {b : List ℕ} {j first count width k : ℕ} (v : Passed b j first coun
 
 pub loop-k-init : goal.loop-k-init
 loop-k-init c =
-    let b = c.args.t.now in
+    let b = c.args.d.now.table.bytes.now in
     let e = c.sample_at-s.ensures in
     record {
       firsts = e.first_is;
@@ -46,7 +46,7 @@ loop-k-init c =
       few = omega (arith, e.count_is, c.requires.pieces_here);
       within = omega arith;
       low = omega arith;
-      done = measuring_starts _ (shaped b c.args.j c.requires.subframes_law c.requires.pieces_here);
+      done = measuring_starts _ (shaped b c.args.j c.args.d.now.subframes_law c.requires.pieces_here);
     }
 
 pub overflow_sub-width : goal.overflow_sub-width
@@ -69,9 +69,6 @@ overflow_add-width-in-loop-k c =
     let e = c.component_at-c.ensures in
     let m = measuring_shaped _ _ _ (next v c.loop-k-test.true) in
     omega (arith, v, low_read v e, high_read v e, m)
-
-pub loop-k-smaller : goal.loop-k-smaller
-loop-k-smaller c = omega (arith, c.loop-k.invariant, c.loop-k-test.true)
 
 pub loop-k-preserved : goal.loop-k-preserved
 loop-k-preserved c =

@@ -1,7 +1,7 @@
 -- The width is summed component by component.
 use mathlib.Core.Path.{◌≡◌}
 use mathlib.Core.List.{List}
-use Prim.Native.Nat.{ℕ, ◌-◌, ◌*◌, ◌≤◌}
+use Prim.Native.Nat.{ℕ, ◌*◌, ◌≤◌}
 use Rattle.sample.proofs.Walks.{Measuring}
 use Rattle.model.specs.Samples.{pieces}
 use Rattle.model.specs.Forms.{sheet_limits}
@@ -20,7 +20,4 @@ pub record Passed (b : List ℕ) (j first count width k : ℕ) : Type 0 where
   pub done : Measuring (pieces (subframes_of b) (sample_at b j)) (left b j k) width
 
 abbrev pub invariant-loop-k : goal.invariant-loop-k
-invariant-loop-k l = Passed l.t l.j l.first l.count l.width l.k
-
-abbrev pub decreases-loop-k : goal.decreases-loop-k
-decreases-loop-k l = l.count - l.k
+invariant-loop-k l = Passed l.d.table.bytes.now l.j l.first l.count l.width l.k

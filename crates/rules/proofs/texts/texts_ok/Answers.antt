@@ -32,28 +32,28 @@ good : {l m : Limits} {x u : List ℕ} {r : Bool} → m ≡ l → x ≡ u → r 
 good q p e h = ap₂ text_ok (sym q) (sym p) ∙ sym e ∙ not-false _ h
 
 pub bounds_of-most-requires : goal.bounds_of-most-requires
-bounds_of-most-requires c = known_here c.requires.opened_of.sized.formed c.requires.opened_of.form_is
+bounds_of-most-requires c = known_here c.args.t.now.opened_of.sized.formed c.args.t.now.opened_of.form_is
 
 pub returns-then-name-lt1 : goal.returns-then-name-lt1
 returns-then-name-lt1 c = refuse _ (λ h. let some = named _ _ h in omega (arith, ap length c.name_in-name.ensures.0))
 
 pub returns-then-not-text_ok : goal.returns-then-not-text_ok
 unfolding texts_ok
-returns-then-not-text_ok c = refuse _ (λ h. differ (bad (bounds_are _ c.requires.opened_of.form_is c.bounds_of-most.ensures) c.name_in-name.ensures.0 c.text_ok.ensures (ap not c.if-not-text_ok.true)) (rule _ h 1))
+returns-then-not-text_ok c = refuse _ (λ h. differ (bad (bounds_are _ c.args.t.now.opened_of.form_is c.bounds_of-most.ensures) c.name_in-name.ensures.0 c.text_ok.ensures (ap not c.if-not-text_ok.true)) (rule _ h 1))
 
 pub returns-then-not-text_ok-2 : goal.returns-then-not-text_ok-2
 unfolding texts_ok
-returns-then-not-text_ok-2 c = refuse _ (λ h. differ (bad (bounds_are _ c.requires.opened_of.form_is c.bounds_of-most.ensures) c.mnemonic_in.ensures c.text_ok-2.ensures (ap not c.if-not-text_ok-2.true)) (rule _ h 2))
+returns-then-not-text_ok-2 c = refuse _ (λ h. differ (bad (bounds_are _ c.args.t.now.opened_of.form_is c.bounds_of-most.ensures) c.mnemonic_in.ensures c.text_ok-2.ensures (ap not c.if-not-text_ok-2.true)) (rule _ h 2))
 
 pub returns-then-not-text_ok-3 : goal.returns-then-not-text_ok-3
 unfolding texts_ok
-returns-then-not-text_ok-3 c = refuse _ (λ h. differ (bad (bounds_are _ c.requires.opened_of.form_is c.bounds_of-most.ensures) c.identification_in.ensures c.text_ok-3.ensures (ap not c.if-not-text_ok-3.true)) (rule _ h 3))
+returns-then-not-text_ok-3 c = refuse _ (λ h. differ (bad (bounds_are _ c.args.t.now.opened_of.form_is c.bounds_of-most.ensures) c.identification_in.ensures c.text_ok-3.ensures (ap not c.if-not-text_ok-3.true)) (rule _ h 3))
 
 pub returns : goal.returns
 returns c =
     let name = c.name_in-name.ensures.0 in
     let some = c.if-name-lt1.false in
     sym
-    (joined _ _ (omega (arith, ap length name, some)) (good (bounds_are _ c.requires.opened_of.form_is c.bounds_of-most.ensures) name c.text_ok.ensures (ap not c.if-not-text_ok.false))
-    (good (bounds_are _ c.requires.opened_of.form_is c.bounds_of-most.ensures) c.mnemonic_in.ensures c.text_ok-2.ensures (ap not c.if-not-text_ok-2.false))
-    (good (bounds_are _ c.requires.opened_of.form_is c.bounds_of-most.ensures) c.identification_in.ensures c.text_ok-3.ensures (ap not c.if-not-text_ok-3.false)))
+    (joined _ _ (omega (arith, ap length name, some)) (good (bounds_are _ c.args.t.now.opened_of.form_is c.bounds_of-most.ensures) name c.text_ok.ensures (ap not c.if-not-text_ok.false))
+    (good (bounds_are _ c.args.t.now.opened_of.form_is c.bounds_of-most.ensures) c.mnemonic_in.ensures c.text_ok-2.ensures (ap not c.if-not-text_ok-2.false))
+    (good (bounds_are _ c.args.t.now.opened_of.form_is c.bounds_of-most.ensures) c.identification_in.ensures c.text_ok-3.ensures (ap not c.if-not-text_ok-3.false)))
