@@ -1,39 +1,26 @@
-// Why a call on a table is refused: one enum for all of them.
+// Why a call on a table is refused: one enum for all of them, with 01's and 02's numbers.
 ghost use Rattle.std.specs.Prelude.{◌≡◌};
 ghost use Rattle.table.specs.Reasons.{reason_number};
 
-#[derive(Clone, Copy)]
+#[derive(Clone, Copy, PartialEq, Eq, Debug)]
 pub enum Reason {
-    Overlapped,
-    NoTable,
-    OtherCount,
-    HighWord,
-    NoParameter,
-    NoSample,
-    TooLarge,
-    NoFrame,
-    UnknownMargin,
-    NoParameters,
-    FewWords,
-    LongStream,
+    Overlapped = 10,
+    NoTable = 18,
+    OtherCount = 19,
+    HighWord = 20,
+    NoParameter = 21,
+    NoSample = 22,
+    TooLarge = 23,
+    NoFrame = 25,
+    UnknownMargin = 26,
+    NoParameters = 27,
+    FewWords = 28,
+    LongStream = 38,
 }
 
-// 01's and 02's numbers.
+#[tactic(auto, unfolding(crate::specs::Reasons::reason_number))]
 pub fn reason_number(r: Reason) -> u32
     ensures { result ≡ reason_number r }
 {
-    match r {
-        Reason::Overlapped => 10,
-        Reason::NoTable => 18,
-        Reason::OtherCount => 19,
-        Reason::HighWord => 20,
-        Reason::NoParameter => 21,
-        Reason::NoSample => 22,
-        Reason::TooLarge => 23,
-        Reason::NoFrame => 25,
-        Reason::UnknownMargin => 26,
-        Reason::NoParameters => 27,
-        Reason::FewWords => 28,
-        Reason::LongStream => 38,
-    }
+    r as u32
 }

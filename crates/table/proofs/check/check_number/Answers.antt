@@ -3,10 +3,10 @@ use mathlib.Core.Path.{sym, ap, ◌∙◌}
 use Rattle.table.specs.Answers.{check_number}
 use Rattle.table.proofs.check.check_number.Goals as goal
 
-pub returns-in-Table : goal.returns-in-Table
+pub returns-in-Ok : goal.returns-in-Ok
 unfolding check_number
-returns-in-Table c = sym (ap check_number c.in-Table.is)
+returns-in-Ok c = sym (ap check_number c.in-Ok.is)
 
-pub returns-in-NotTable : goal.returns-in-NotTable
+pub returns-in-Err : goal.returns-in-Err
 unfolding check_number
-returns-in-NotTable c = c.reason_number.ensures ∙ sym (ap check_number c.in-NotTable.is)
+returns-in-Err c = c.reason_number.ensures ∙ sym (ap check_number c.in-Err.is)

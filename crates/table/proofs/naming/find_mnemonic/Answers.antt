@@ -12,27 +12,24 @@ use Rattle.table.proofs.Asking.{called_at, found}
 use Rattle.table.proofs.naming.find_mnemonic.Goals as goal
 
 pub loop-i-init : goal.loop-i-init
-loop-i-init c = record { counted = c.requires.opened_of.counts.parameters_is; within = omega arith; none = λ k l. absurd (not-suc-le-zero l) }
+loop-i-init c = record { counted = c.args.t.now.opened_of.counts.parameters_is; within = omega arith; none = λ k l. absurd (not-suc-le-zero l) }
 
 pub mnemonic_in-requires : goal.mnemonic_in-requires
 mnemonic_in-requires c =
-    record { opened_of = c.requires.opened_of; parameter_here = parameter_here c.args.t.now c.requires.entries _ (omega (arith, c.loop-i.invariant, c.loop-i-test.true)) }
+    record { parameter_here = parameter_here c.args.t.now.bytes.now c.requires.entries _ (omega (arith, c.loop-i.invariant, c.loop-i-test.true)) }
 
 pub returns-then-same_text : goal.returns-then-same_text
 returns-then-same_text c =
-    let b = c.args.t.now in
+    let b = c.args.t.now.bytes.now in
     let m = c.args.mnemonic.now in
     let v = c.loop-i.invariant in
     let i = c.loop-i.i in
     let q = ap (λ (x : List ℕ). same x m) c.mnemonic_in.ensures in
     sym (found b m ∙ find_at (parameters_in b) (called_at b m) i (omega (arith, v, c.loop-i-test.true)) (sym q ∙ sym c.same_text.ensures ∙ c.if-same_text.true) v.none)
 
-pub loop-i-smaller : goal.loop-i-smaller
-loop-i-smaller c = omega (arith, c.loop-i.invariant, c.loop-i-test.true)
-
 pub loop-i-preserved : goal.loop-i-preserved
 loop-i-preserved c =
-    let b = c.args.t.now in
+    let b = c.args.t.now.bytes.now in
     let m = c.args.mnemonic.now in
     let v = c.loop-i.invariant in
     let q = ap (λ (x : List ℕ). same x m) c.mnemonic_in.ensures in
@@ -44,8 +41,8 @@ loop-i-preserved c =
 
 pub returns : goal.returns
 returns c =
-    let b = c.args.t.now in
+    let b = c.args.t.now.bytes.now in
     let m = c.args.mnemonic.now in
     let v = c.loop-i.invariant in
     let full : c.loop-i.i ≡ parameters_in b = omega (arith, v, c.loop-i-test.false) in
-    full ∙ sym (found b m ∙ find_none (parameters_in b) (called_at b m) (λ k l. v.none k (omega (arith, full))))
+    v.counted ∙ sym (found b m ∙ find_none (parameters_in b) (called_at b m) (λ k l. v.none k (omega (arith, full))))

@@ -1,20 +1,27 @@
 -- What is asked, and its name.
-use mathlib.Core.Path.{refl, sym, subst, ◌∙◌}
-use Rattle.table.specs.Answers.{NameOf, AskedHere}
-use Rattle.table.specs.declared.naming.Asked.{Asked}
-use Rattle.table.proofs.Accepting.{opened_accepted, opened_not}
+use mathlib.Core.Path.{◌≡◌, refl, sym, subst, ◌∙◌}
+use mathlib.Core.List.{List}
+use Prim.Native.Nat.{ℕ}
+use Rattle.std.specs.Borrow.{Bor}
+use Rattle.table.specs.Answers.{NameOf, Asked, AskedHere, asked_number}
+use Rattle.table.proofs.Accepting.{opened_here, opened_not, opened_bytes, opened_parameters}
 use Rattle.table.proofs.Asking.{number_asked, number_table, number_no_table, no_name}
+use Rattle.table.proofs.naming.name.Goals.{After-numbered}
 use Rattle.table.proofs.naming.name.Goals as goal
+
+-- the parameter of that number is what is asked of the lent bytes
+asked : (c : After-numbered) → c.numbered.result ≡ asked_number c.args.t.now c.args.number
+asked c = c.numbered.ensures ∙ number_table _ _ (opened_here c.in-Some.ensures) _ (opened_parameters c.in-Some.ensures)
 
 pub name_of-requires : goal.name_of-requires
 name_of-requires c =
-    let e = c.in-Table.is in
-    record { opened_of = c.opening-opened.ensures.opened _ e; asked_here = subst (λ (x : Asked). AskedHere c.args.t.now x) (sym (c.numbered.ensures ∙ number_table _ _ (opened_accepted c.opening-opened.ensures e) _ (c.opening-opened.ensures.opened _ e).counts.parameters_is)) (number_asked c.args.t.now c.args.number) }
+    let h = subst (λ (x : Bor (List ℕ)). AskedHere x.now (asked_number c.args.t.now c.args.number)) (sym (opened_bytes c.in-Some.ensures)) (number_asked c.args.t.now c.args.number) in
+    record { asked_here = subst (λ (x : Asked). AskedHere c.in-Some.r.declared.table.bytes.now x) (sym (asked c)) h }
 
-pub returns-in-Table : goal.returns-in-Table
-returns-in-Table c =
-    let e = c.in-Table.is in
-    subst (λ (x : Asked). NameOf c.args.t c.name_of.result x) (c.numbered.ensures ∙ number_table _ _ (opened_accepted c.opening-opened.ensures e) _ (c.opening-opened.ensures.opened _ e).counts.parameters_is) c.name_of.ensures
+pub returns-in-Some : goal.returns-in-Some
+returns-in-Some c =
+    let h = subst (λ (x : Bor (List ℕ)). NameOf x c.name_of.result c.numbered.result) (opened_bytes c.in-Some.ensures) c.name_of.ensures in
+    subst (λ (x : Asked). NameOf c.args.t c.name_of.result x) (asked (goal.at.returns-in-Some c).After-numbered) h
 
-pub returns-in-NotTable : goal.returns-in-NotTable
-returns-in-NotTable c = no_name _ _ _ _ (number_no_table _ _ (opened_not c.opening-opened.ensures c.in-NotTable.is)) refl refl
+pub returns-in-None : goal.returns-in-None
+returns-in-None c = no_name _ _ _ _ (number_no_table _ _ (opened_not c.in-None.ensures refl)) refl refl
