@@ -1,53 +1,32 @@
 // A page of reads: the table is checked and the frame judged once, then each request is read by what they said.
-ghost use Rattle.std.specs.Prelude.{◌≡◌};
-ghost use Rattle.model.specs.Accepts.{accepts};
+ghost use Rattle.std.specs.Prelude.{◌≡◌, List, ℕ};
 ghost use Rattle.framing.specs.Reading.{read_of};
 ghost use Rattle.framing.specs.Outcomes.{outcome_of};
-ghost use Rattle.frame.specs.Page.{PageOf, BasesIn};
+ghost use Rattle.frame.specs.Page.{PageOf};
 
 use super::fit::fit_of;
 use super::read::{read_in, read_number};
-use framing::fit::Fit;
 use framing::page::Outcome;
 use framing::read::Reading;
-use model::limits::SUBFRAMES;
-use rules::bases::bases_of;
-use stored::items::Opening;
-use stored::layout::reopened;
+use rules::ruled::RuledTable;
 use table::check::opening;
 use table::reason::Reason;
 
-// What is found once for all reads of a page: whether the bytes are a table, and the fit; of bytes that are none it is not asked for.
+// What is found once for all reads of a page: the table opened, and whether the words fit it.
 #[derive(Clone, Copy)]
-pub struct Page {
-    pub table: bool,
-    pub fit: Fit,
+pub struct Page<'t> {
+    pub table: RuledTable<'t>,
+    pub words: &'t [u16],
+    pub fit: Result<(), Reason>,
 }
 
-pub fn page_of(t: &[u8], words: &[u16]) -> Page
+// Nothing where the bytes are no table.
+pub fn page_of<'t>(t: &'t [u8], words: &'t [u16]) -> Option<Page<'t>>
     ensures { PageOf t.now words.now result }
 {
-    let opened = opening(t);
-    let Opening::Table(o) = opened else {
-        return Page {
-            table: false,
-            fit: Fit::Refused(Reason::NoTable),
-        };
-    };
-    let before = bases_of(t, o);
-    let fit = fit_of(t, o, words, &before);
-    Page { table: true, fit }
-}
-
-// The words before each subframe; of bytes that are no table none is asked for.
-pub fn page_bases(t: &[u8], page: Page) -> [usize; SUBFRAMES]
-    requires { page.table ≡ accepts t.now }
-    ensures { BasesIn t.now result }
-{
-    if page.table {
-        return bases_of(t, reopened(t));
-    }
-    [0usize; SUBFRAMES]
+    let table = opening(t)?;
+    let fit = fit_of(&table, words);
+    Some(Page { table, words, fit })
 }
 
 // A reading in numbers.
@@ -81,35 +60,18 @@ pub fn outcome_of(reading: Reading) -> Outcome
 }
 
 // What a single read of these numbers answers, without asking the table and the frame again.
-fn read_by(
-    t: &[u8],
-    words: &[u16],
-    page: Page,
-    before: &[usize; SUBFRAMES],
-    parameter: u32,
-    sample: u32,
-) -> Reading
-    requires { PageOf t.now words.now page × BasesIn t.now before.now }
-    ensures { result ≡ read_of t.now words.now parameter sample }
+fn read_by(page: &Option<Page>, parameter: u32, sample: u32) -> Reading
+    ensures { (t w : List ℕ) → PageOf t w page.now → result ≡ read_of t w parameter sample }
 {
-    let fit = page.fit;
-    if page.table {
-        return read_in(t, words, fit, parameter, sample, before);
+    match page {
+        Some(p) => read_in(&p.table, p.words, p.fit, parameter, sample),
+        None => Reading::Refused(Reason::NoTable),
     }
-    Reading::Refused(Reason::NoTable)
 }
 
 // The same in numbers.
-pub fn outcome_by(
-    t: &[u8],
-    words: &[u16],
-    page: Page,
-    before: &[usize; SUBFRAMES],
-    parameter: u32,
-    sample: u32,
-) -> Outcome
-    requires { PageOf t.now words.now page × BasesIn t.now before.now }
-    ensures { result ≡ outcome_of (read_of t.now words.now parameter sample) }
+pub fn outcome_by(page: &Option<Page>, parameter: u32, sample: u32) -> Outcome
+    ensures { (t w : List ℕ) → PageOf t w page.now → result ≡ outcome_of (read_of t w parameter sample) }
 {
-    outcome_of(read_by(t, words, page, before, parameter, sample))
+    outcome_of(read_by(page, parameter, sample))
 }

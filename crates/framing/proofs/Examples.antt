@@ -29,9 +29,9 @@ use Rattle.framing.specs.Placing.{laps_in, place_for, place_of, placed_for, plac
 use Rattle.framing.specs.Comparing.{differs_at, differs_in, compared_in, fitted_compared, compared_of, compared_number}
 use Rattle.framing.specs.declared.read.Reading.{Reading}
 use Rattle.framing.specs.declared.read.Reading.TheVariants.{Sample as Answer, OverlapDiffers}
-use Rattle.framing.specs.declared.place.Placed.TheVariants.{Done, Refused}
 use Rattle.table.specs.declared.reason.Reason.TheVariants.{Overlapped}
 use Rattle.framing.specs.declared.compare.Compared.TheVariants.{Passes, Differs}
+use Rattle.std.specs.Prelude.{Ok, Err}
 
 pub data Case : Type 0 where
   -- the words, parameter and sample, and the answer
@@ -57,7 +57,7 @@ table = write newest wall
 abbrev pub Holds : Case → Type 0
 Holds (reads f p s a) = read_of table f p s ≡ a
 Holds (unread f p s n) = read_number (read_of table f p s) ≡ n
-Holds (places f p s v g) = (place_of table f p s v ≡ Done) × (placed_of table f p s v ≡ g)
+Holds (places f p s v g) = (place_of table f p s v ≡ Ok tt) × (placed_of table f p s v ≡ g)
 Holds (unplaced f p s v n) = (place_number (place_of table f p s v) ≡ n) × (placed_of table f p s v ≡ f)
 Holds (passes f) = compared_of table f ≡ Passes
 Holds (differs f n s) = (compared_number (compared_of table f) ≡ n) × (compared_of table f ≡ Differs s)
@@ -126,11 +126,11 @@ read_wall f p s = rw (wall_accepted, said)
 unread_wall : (f : List ℕ) (p s : ℕ) → read_number (read_of table f p s) ≡ read_number (read_for wall f (wanted_in wall f p s))
 unread_wall f p s = ap read_number (read_wall f p s)
 
-place_wall : (f : List ℕ) (p s v : ℕ) → place_of table f p s v ≡ cond (laps_in wall p s) (Refused Overlapped) (place_for wall (wanted_in wall f p s) v)
+place_wall : (f : List ℕ) (p s v : ℕ) → place_of table f p s v ≡ cond (laps_in wall p s) (Err Overlapped) (place_for wall (wanted_in wall f p s) v)
 unfolding place_of wanted_of
 place_wall f p s v = rw (wall_accepted, said)
 
-unplaced_wall : (f : List ℕ) (p s v : ℕ) → place_number (place_of table f p s v) ≡ place_number (cond (laps_in wall p s) (Refused Overlapped) (place_for wall (wanted_in wall f p s) v))
+unplaced_wall : (f : List ℕ) (p s v : ℕ) → place_number (place_of table f p s v) ≡ place_number (cond (laps_in wall p s) (Err Overlapped) (place_for wall (wanted_in wall f p s) v))
 unplaced_wall f p s v = ap place_number (place_wall f p s v)
 
 placed_wall : (f : List ℕ) (p s v : ℕ) → placed_of table f p s v ≡ cond (laps_in wall p s) f (placed_for wall f (wanted_in wall f p s) v)

@@ -2,8 +2,5 @@
 #![tactic(auto)]
 
 pub mod compare;
-pub mod fit;
 pub mod page;
-pub mod place;
 pub mod read;
-pub mod want;
