@@ -1,16 +1,15 @@
 -- Not part of the meaning: what the check and the fit say, found once for all reads of a page.
-use Rattle.std.specs.Prelude.{◌≡◌, true, List, ℕ}
-use Rattle.model.specs.View.{view}
+use Rattle.std.specs.Prelude.{◌≡◌, true, false, List, ℕ, Option, Some, None}
 use Rattle.model.specs.Accepts.{accepts}
-use Rattle.rules.specs.Ruled.{BasesOf}
-use Rattle.framing.specs.Fitting.{fit_of}
-use Rattle.frame.specs.declared.page.Page.{Page}
+use Rattle.frame.specs.declared.found.Page.{Page}
 
 -- of a table's bytes and a frame's words
-pub record PageOf (t w : List ℕ) (g : Page) : Type 0 where
-  pub checked : g.table ≡ accepts t
-  pub fitting : accepts t ≡ true → g.fit ≡ fit_of (view t) w
+pub record Opened (t w : List ℕ) (g : Page) : Type 0 where
+  pub accepted : accepts t ≡ true
+  pub bytes : g.table.declared.table.bytes.now ≡ t
+  pub words : g.words.now ≡ w
 
--- how many words stand before each subframe, if the bytes are a table
-pub record BasesIn (t r : List ℕ) : Type 0 where
-  pub bases : accepts t ≡ true → BasesOf t r
+-- nothing where the bytes are no table
+abbrev pub PageOf : List ℕ → List ℕ → Option Page → Type 0
+PageOf t w (Some g) = Opened t w g
+PageOf t w None = accepts t ≡ false

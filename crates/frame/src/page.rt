@@ -5,20 +5,12 @@ ghost use Rattle.framing.specs.Outcomes.{outcome_of};
 ghost use Rattle.frame.specs.Page.{PageOf};
 
 use super::fit::fit_of;
+use super::found::Page;
 use super::read::{read_in, read_number};
 use framing::page::Outcome;
 use framing::read::Reading;
-use rules::ruled::RuledTable;
 use table::check::opening;
 use table::reason::Reason;
-
-// What is found once for all reads of a page: the table opened, and whether the words fit it.
-#[derive(Clone, Copy)]
-pub struct Page<'t> {
-    pub table: RuledTable<'t>,
-    pub words: &'t [u16],
-    pub fit: Result<(), Reason>,
-}
 
 // Nothing where the bytes are no table.
 pub fn page_of<'t>(t: &'t [u8], words: &'t [u16]) -> Option<Page<'t>>

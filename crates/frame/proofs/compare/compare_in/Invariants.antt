@@ -2,7 +2,7 @@
 use mathlib.Core.Path.{◌≡◌}
 use mathlib.Core.Bool.{false}
 use mathlib.Core.List.{List}
-use Prim.Native.Nat.{ℕ, ◌+◌, ◌-◌, ◌≤◌, ◌<◌}
+use Prim.Native.Nat.{ℕ, ◌+◌, ◌≤◌, ◌<◌}
 use Rattle.model.specs.Stored.{subframes_in}
 use Rattle.model.specs.View.{view}
 use Rattle.framing.specs.Comparing.{differs_in}
@@ -14,7 +14,4 @@ pub record Passed (b f : List ℕ) (subframes s : ℕ) : Type 0 where
   pub none : (k : ℕ) → k < s → differs_in (view b) f (k + 1) ≡ false
 
 abbrev pub invariant-loop-s : goal.invariant-loop-s
-invariant-loop-s l = Passed l.t l.words l.subframes l.s
-
-abbrev pub decreases-loop-s : goal.decreases-loop-s
-decreases-loop-s l = l.subframes - l.s
+invariant-loop-s l = Passed l.f.ruled.now.declared.table.bytes.now l.f.words.now l.subframes l.s

@@ -23,7 +23,7 @@ returns-then-not-has_identifier c =
     sym (no_identifier _ _ _ _ l (sym (identifier_flag _ _ c.parameter_at-e.ensures.flags_is c.has_identifier.ensures) ∙ c.if-not-has_identifier.true))
 
 -- the flag is set
-flagged : (c : After-has_identifier) → not c.has_identifier.result ≡ false → identifier_in c.args.t.now c.args.i ≡ true
+flagged : (c : After-has_identifier) → not c.has_identifier.result ≡ false → identifier_in c.args.f.now.ruled.now.declared.table.bytes.now c.args.i ≡ true
 flagged c h = sym (identifier_flag _ _ c.parameter_at-e.ensures.flags_is c.has_identifier.ensures) ∙ not-false _ h
 
 pub returns-then-lies_in-s : goal.returns-then-lies_in-s
@@ -33,25 +33,25 @@ returns-then-lies_in-s c =
 
 pub holds_at-requires : goal.holds_at-requires
 holds_at-requires c =
-    let t = c.args.t.now in
+    let t = c.args.f.now.ruled.now.declared.table.bytes.now in
     let i = c.args.i in
-    let r = c.requires.ruled_by.ruled in
+    let r = c.args.f.now.ruled.now.ruled in
     let l = c.requires.i_bound in
     let e = c.parameter_at-e.ensures in
     let m = listed_at t i 0 r l (first_one t i r l) in
     let q : c.parameter_at-e.result.first ≡ first_sample_in t i + 0 = omega (arith, e) in
-    record { ruled_by = c.requires.ruled_by; bases_of = c.requires.bases_of; sample_here = here_at t i 0 m q; sample_law = law_at t i 0 m q; words_len = c.requires.words_len }
+    record { sample_here = here_at t i 0 m q; sample_law = law_at t i 0 m q }
 
 -- what is held is the identifier's value
-held : (c : After-holds_at) → c.holds_at.result ≡ holds (subframes_of c.args.t.now) c.args.words.now (sample (parameter_at c.args.t.now c.args.i) 0) (value_in c.args.t.now c.args.i)
+held : (c : After-holds_at) → c.holds_at.result ≡ holds (subframes_of c.args.f.now.ruled.now.declared.table.bytes.now) c.args.f.now.words.now (sample (parameter_at c.args.f.now.ruled.now.declared.table.bytes.now c.args.i) 0) (value_in c.args.f.now.ruled.now.declared.table.bytes.now c.args.i)
 held c =
-    let t = c.args.t.now in
+    let t = c.args.f.now.ruled.now.declared.table.bytes.now in
     let i = c.args.i in
-    let r = c.requires.ruled_by.ruled in
+    let r = c.args.f.now.ruled.now.ruled in
     let l = c.requires.i_bound in
     let e = c.parameter_at-e.ensures in
     c.holds_at.ensures
-    ∙ ap₂ (holds (subframes_of t) c.args.words.now) (ap (sample_at t) e.first_is ∙ sym (first t i r l).is) e.value_is
+    ∙ ap₂ (holds (subframes_of t) c.args.f.now.words.now) (ap (sample_at t) e.first_is ∙ sym (first t i r l).is) e.value_is
 
 pub returns-then-holds_at : goal.returns-then-holds_at
 returns-then-holds_at c =

@@ -2,7 +2,7 @@
 use mathlib.Core.Path.{◌≡◌}
 use mathlib.Core.Bool.{false}
 use mathlib.Core.List.{List}
-use Prim.Native.Nat.{ℕ, ◌-◌, ◌≤◌, ◌<◌}
+use Prim.Native.Nat.{ℕ, ◌≤◌, ◌<◌}
 use Rattle.model.specs.Stored.{parameters_in}
 use Rattle.model.specs.View.{view}
 use Rattle.framing.specs.Comparing.{differs_at}
@@ -14,7 +14,4 @@ pub record Passed (b f : List ℕ) (s parameters i : ℕ) : Type 0 where
   pub none : (k : ℕ) → k < i → differs_at (view b) f s k ≡ false
 
 abbrev pub invariant-loop-i : goal.invariant-loop-i
-invariant-loop-i l = Passed l.t l.words l.s l.parameters l.i
-
-abbrev pub decreases-loop-i : goal.decreases-loop-i
-decreases-loop-i l = l.parameters - l.i
+invariant-loop-i l = Passed l.f.ruled.now.declared.table.bytes.now l.f.words.now l.s l.parameters l.i

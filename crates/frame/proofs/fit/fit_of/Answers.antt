@@ -8,9 +8,8 @@ pub returns-then-words-frame_words : goal.returns-then-words-frame_words
 unfolding fit_of
 returns-then-words-frame_words c = simp (ne_eqb _ _ (λ q. c.if-words-frame_words.true (q ∙ sym c.frame_words.ensures)))
 
-pub words_ok-requires : goal.words_ok-requires
-words_ok-requires c =
-    record { ruled_by = c.requires.ruled_by; bases_of = c.requires.bases_of; words_len = c.if-words-frame_words.false ∙ c.frame_words.ensures }
+pub invariant_of-frame : goal.invariant_of-frame
+invariant_of-frame c = record { words_len = c.if-words-frame_words.false ∙ c.frame_words.ensures }
 
 pub returns-then-not-words_ok : goal.returns-then-not-words_ok
 unfolding fit_of

@@ -29,36 +29,36 @@ module _ {b f : List ℕ} {i count limit first w : ℕ} (v : Passed b f i count 
   fits : get_or f (first + w) 0 < limit → word_fits b f i w ≡ true
   fits h = lt-ltb (get_or f (word_at (view b) i w) 0) (2 ^ bits_in b i) (omega (arith, read))
 
-pub overflow_cast-f : goal.overflow_cast-f
+pub overflow_cast-e : goal.overflow_cast-e
 unfolding subframe_at
-overflow_cast-f c =
-    let f = (c.requires.ruled_by.ruled.subframes.each c.args.i c.requires.i_bound).few_bits in
-    let w = c.requires.ruled_by.ruled.subframes.within.bits in
-    omega (arith, f, w, c.subframe_at-f.ensures)
+overflow_cast-e c =
+    let f = (c.args.f.now.ruled.now.ruled.subframes.each c.args.i c.requires.i_bound).few_bits in
+    let w = c.args.f.now.ruled.now.ruled.subframes.within.bits in
+    omega (arith, f, w, c.subframe_at-e.ensures)
 
 pub power_of_two-limit-requires : goal.power_of_two-limit-requires
 unfolding subframe_at
 power_of_two-limit-requires c =
-    let f = (c.requires.ruled_by.ruled.subframes.each c.args.i c.requires.i_bound).few_bits in
-    let w = c.requires.ruled_by.ruled.subframes.within.bits in
-    omega (arith, f, w, c.subframe_at-f.ensures)
+    let f = (c.args.f.now.ruled.now.ruled.subframes.each c.args.i c.requires.i_bound).few_bits in
+    let w = c.args.f.now.ruled.now.ruled.subframes.within.bits in
+    omega (arith, f, w, c.subframe_at-e.ensures)
 
 pub loop-w-init : goal.loop-w-init
 unfolding subframe_at
 loop-w-init c =
     let i = c.args.i in
     let l = c.requires.i_bound in
-    let f = (c.requires.ruled_by.ruled.subframes.each i l).few_words in
-    let w = c.requires.ruled_by.ruled.subframes.within.words in
-    let e = c.subframe_at-f.ensures in
+    let f = (c.args.f.now.ruled.now.ruled.subframes.each i l).few_words in
+    let w = c.args.f.now.ruled.now.ruled.subframes.within.words in
+    let e = c.subframe_at-e.ensures in
     record {
       here = l;
-      long = c.requires.words_len;
+      long = c.args.f.now.words_len;
       counted = e.words_is;
       few = omega (arith, f, w, e);
       limits = c.power_of_two-limit.ensures ∙ ap (λ (n : ℕ). 2 ^ n) e.bits_is;
-      low = c.requires.bases_of.small i l;
-      place = λ k. ap (λ (n : ℕ). n + k) (c.requires.bases_of.each i l);
+      low = c.args.f.now.ruled.now.declared.bases_of.small i l;
+      place = λ k. ap (λ (n : ℕ). n + k) (c.args.f.now.ruled.now.declared.bases_of.each i l);
       within = omega arith;
       done = refl;
     }
@@ -66,34 +66,27 @@ loop-w-init c =
 pub overflow_add-first : goal.overflow_add-first
 overflow_add-first c = omega (arith, c.loop-w.invariant, c.loop-w-test.true)
 
-pub offset_bounds-words-first : goal.offset_bounds-words-first
-offset_bounds-words-first c = omega (arith, c.loop-w.invariant, c.loop-w-test.true)
+pub offset_bounds-f-first : goal.offset_bounds-f-first
+offset_bounds-f-first c = omega (arith, c.loop-w.invariant, c.loop-w-test.true)
 
-pub bounds-words-first : goal.bounds-words-first
-bounds-words-first c = inside c.loop-w.invariant c.loop-w-test.true
+pub bounds-f-first : goal.bounds-f-first
+bounds-f-first c = inside c.loop-w.invariant c.loop-w-test.true
 
-pub overflow_cast-words : goal.overflow_cast-words
-overflow_cast-words c =
-    omega (arith, c.shared_slice_known-in-loop-w-1.given (get_or c.args.before.now c.args.i 0 + c.loop-w.w))
-
-pub returns-then-limit-words : goal.returns-then-limit-words
-returns-then-limit-words c =
-    let b = c.args.t.now in
-    let f = c.args.words.now in
+pub returns-then-limit-f : goal.returns-then-limit-f
+returns-then-limit-f c =
+    let b = c.args.f.now.ruled.now.declared.table.bytes.now in
+    let f = c.args.f.now.words.now in
     let v = c.loop-w.invariant in
     let l = c.loop-w-test.true in
     refuse _
     (λ h.
-    differ (high v l c.if-limit-words.true)
+    differ (high v l c.if-limit-f.true)
     (all_below (words_in b c.args.i) (word_fits b f c.args.i) (sym (fits_view b f c.args.i v.here) ∙ h) c.loop-w.w (omega (arith, v, l))))
-
-pub loop-w-smaller : goal.loop-w-smaller
-loop-w-smaller c = omega (arith, c.loop-w.invariant, c.loop-w-test.true)
 
 pub loop-w-preserved : goal.loop-w-preserved
 loop-w-preserved c =
-    let b = c.args.t.now in
-    let f = c.args.words.now in
+    let b = c.args.f.now.ruled.now.declared.table.bytes.now in
+    let f = c.args.f.now.words.now in
     let v = c.loop-w.invariant in
     let l = c.loop-w-test.true in
     record {
@@ -105,12 +98,12 @@ loop-w-preserved c =
       low = v.low;
       place = v.place;
       within = omega (arith, v, l);
-      done = all_more c.loop-w.w (word_fits b f c.args.i) v.done (fits v l c.if-limit-words.false);
+      done = all_more c.loop-w.w (word_fits b f c.args.i) v.done (fits v l c.if-limit-f.false);
     }
 
 pub returns : goal.returns
 returns c =
-    let b = c.args.t.now in
+    let b = c.args.f.now.ruled.now.declared.table.bytes.now in
     let v = c.loop-w.invariant in
     let full : c.loop-w.w ≡ words_in b c.args.i = omega (arith, v, c.loop-w-test.false) in
-    sym (fits_view b c.args.words.now c.args.i v.here ∙ (rw full at v.done))
+    sym (fits_view b c.args.f.now.words.now c.args.i v.here ∙ (rw full at v.done))

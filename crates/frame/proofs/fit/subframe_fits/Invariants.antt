@@ -2,7 +2,7 @@
 use mathlib.Core.Path.{◌≡◌}
 use mathlib.Core.Bool.{true}
 use mathlib.Core.List.{List}
-use Prim.Native.Nat.{ℕ, ◌*◌, ◌+◌, ◌-◌, ◌^◌, ◌≤◌, ◌<◌}
+use Prim.Native.Nat.{ℕ, ◌*◌, ◌+◌, ◌^◌, ◌≤◌, ◌<◌}
 use lib.ListN.{length}
 use Rattle.lay.specs.Below.{all}
 use Rattle.model.specs.Frame.{frame_words}
@@ -25,7 +25,4 @@ pub record Passed (b f : List ℕ) (i count limit first w : ℕ) : Type 0 where
   pub done : all w (word_fits b f i) ≡ true
 
 abbrev pub invariant-loop-w : goal.invariant-loop-w
-invariant-loop-w l = Passed l.t l.words l.i l.count l.limit l.first l.w
-
-abbrev pub decreases-loop-w : goal.decreases-loop-w
-decreases-loop-w l = l.count - l.w
+invariant-loop-w l = Passed l.f.ruled.now.declared.table.bytes.now l.f.words.now l.i l.count l.limit l.first l.w

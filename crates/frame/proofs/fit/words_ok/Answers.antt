@@ -7,22 +7,19 @@ use mathlib.Core.Bool.{not}
 use Rattle.frame.proofs.fit.words_ok.Goals as goal
 
 pub loop-i-init : goal.loop-i-init
-loop-i-init c = passed_none _ _ _ c.requires.ruled_by.opened.counts.subframes_is
+loop-i-init c = passed_none _ _ _ c.args.f.now.ruled.now.declared.table.opened_of.counts.subframes_is
 
 pub subframe_fits-requires : goal.subframe_fits-requires
 subframe_fits-requires c =
-    record { ruled_by = c.requires.ruled_by; bases_of = c.requires.bases_of; i_bound = omega (arith, c.loop-i.invariant, c.loop-i-test.true); words_len = c.requires.words_len }
+    record { i_bound = omega (arith, c.loop-i.invariant, c.loop-i-test.true) }
 
 pub returns-then-not-subframe_fits : goal.returns-then-not-subframe_fits
 returns-then-not-subframe_fits c =
-    failed c.loop-i.invariant c.loop-i-test.true c.subframe_fits.ensures (ap not c.if-not-subframe_fits.true) ∙ sym (all_fit c.args.t.now c.args.words.now)
-
-pub loop-i-smaller : goal.loop-i-smaller
-loop-i-smaller c = omega (arith, c.loop-i.invariant, c.loop-i-test.true)
+    failed c.loop-i.invariant c.loop-i-test.true c.subframe_fits.ensures (ap not c.if-not-subframe_fits.true) ∙ sym (all_fit c.args.f.now.ruled.now.declared.table.bytes.now c.args.f.now.words.now)
 
 pub loop-i-preserved : goal.loop-i-preserved
 loop-i-preserved c = passed_more c.loop-i.invariant c.loop-i-test.true c.subframe_fits.ensures (ap not c.if-not-subframe_fits.false)
 
 pub returns : goal.returns
 returns c =
-    passed_all c.loop-i.invariant c.loop-i-test.false ∙ sym (all_fit c.args.t.now c.args.words.now)
+    passed_all c.loop-i.invariant c.loop-i-test.false ∙ sym (all_fit c.args.f.now.ruled.now.declared.table.bytes.now c.args.f.now.words.now)

@@ -1,5 +1,4 @@
 -- The subframes before i fit.
-use Prim.Native.Nat.{◌-◌}
 use Rattle.lay.proofs.Passing.{Passed}
 use Rattle.model.specs.Stored.{subframes_in}
 use Rattle.model.specs.View.{view}
@@ -7,7 +6,4 @@ use Rattle.framing.specs.Fitting.{subframe_fits}
 use Rattle.frame.proofs.fit.words_ok.Given as goal
 
 abbrev pub invariant-loop-i : goal.invariant-loop-i
-invariant-loop-i l = Passed (subframes_in l.t) (subframe_fits (view l.t) l.words) l.subframes l.i
-
-abbrev pub decreases-loop-i : goal.decreases-loop-i
-decreases-loop-i l = l.subframes - l.i
+invariant-loop-i l = Passed (subframes_in l.f.ruled.now.declared.table.bytes.now) (subframe_fits (view l.f.ruled.now.declared.table.bytes.now) l.f.words.now) l.subframes l.i

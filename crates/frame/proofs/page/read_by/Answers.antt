@@ -1,19 +1,27 @@
 -- What was found once serves each read: it answers what a read by the bytes alone would.
-use mathlib.Core.Path.{sym, ap, ◌∙◌}
-use Rattle.table.proofs.Accepting.{accepted_ruled}
+use mathlib.Core.Path.{sym, ap, ap₂, ◌∙◌}
+use mathlib.Core.List.{List}
+use Prim.Native.Nat.{ℕ}
+use Rattle.model.specs.View.{view}
+use Rattle.framing.specs.Wanted.{wanted_in}
 use Rattle.framing.specs.Reading.{read_for, read_of}
 use Rattle.framing.proofs.WantCases.{want_no_table, want_table}
+use Rattle.frame.specs.Page.{Opened}
 use Rattle.frame.proofs.page.read_by.Goals as goal
 
 pub read_in-requires : goal.read_in-requires
-read_in-requires c =
-    let a = sym c.requires.0.checked ∙ c.if-page.true in
-    record { ruled = accepted_ruled _ a; bases_of = c.requires.1.bases a; fit_value = c.requires.0.fitting a }
+read_in-requires c = record { fit_value = c.in-Some.p.fit_value }
 
-pub returns-then-page : goal.returns-then-page
+pub returns-in-Some : goal.returns-in-Some
 unfolding read_of
-returns-then-page c = c.read_in.ensures ∙ sym (ap (read_for _ _) (want_table _ _ _ _ (sym c.requires.0.checked ∙ c.if-page.true)))
+returns-in-Some c t w g =
+    let h : Opened t w c.in-Some.p = rw c.in-Some.is at g in
+    c.read_in.ensures
+    ∙ ap₂ (λ (x y : List ℕ). read_for (view x) y (wanted_in (view x) y c.args.parameter c.args.sample)) h.bytes h.words
+    ∙ sym (ap (read_for _ _) (want_table _ _ _ _ h.accepted))
 
-pub returns : goal.returns
+pub returns-in-None : goal.returns-in-None
 unfolding read_of read_for
-returns c = sym (ap (read_for _ _) (want_no_table _ _ _ _ (sym c.requires.0.checked ∙ c.if-page.false)))
+returns-in-None c t w g =
+    let h = rw c.in-None.is at g in
+    sym (ap (read_for _ _) (want_no_table _ _ _ _ h))

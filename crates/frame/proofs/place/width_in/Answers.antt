@@ -15,19 +15,19 @@ overflow_add-e c =
 
 pub width_at-requires : goal.width_at-requires
 width_at-requires c =
-    let t = c.args.t.now in
+    let t = c.args.r.now.declared.table.bytes.now in
     let e = c.parameter_at-e.ensures in
-    let m = listed_at t c.args.i c.args.j c.requires.ruled_by.ruled c.requires.i_bound c.requires.j_bound in
+    let m = listed_at t c.args.i c.args.j c.args.r.now.ruled c.requires.i_bound c.requires.j_bound in
     let q = ap (λ (f : ℕ). f + c.args.j) e.first_is in
-    record { opened_of = c.requires.ruled_by.opened; sample_here = here_at t _ _ m q; subframes_law = c.requires.ruled_by.ruled.subframes; pieces_here = pieces_here t _ _ m q }
+    record { sample_here = here_at t _ _ m q; pieces_here = pieces_here t _ _ m q }
 
 pub returns : goal.returns
 unfolding width_is
 returns c =
-    let t = c.args.t.now in
+    let t = c.args.r.now.declared.table.bytes.now in
     let i = c.args.i in
     let j = c.args.j in
     let e = c.parameter_at-e.ensures in
-    let m = listed_at t i j c.requires.ruled_by.ruled c.requires.i_bound c.requires.j_bound in
+    let m = listed_at t i j c.args.r.now.ruled c.requires.i_bound c.requires.j_bound in
     let w = c.width_at.ensures.0 ∙ ap (λ (f : ℕ). width_of (subframes_of t) (sample_at t (f + j))) e.first_is in
     (w ∙ sym (ap (width_of (subframes_of t)) m.is), omega (arith, w, m.law.narrow, m.within.width))

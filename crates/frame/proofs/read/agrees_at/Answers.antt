@@ -8,15 +8,15 @@ use Rattle.frame.proofs.read.agrees_at.Goals as goal
 
 pub returns-then-not-laps : goal.returns-then-not-laps
 returns-then-not-laps c =
-    let b = c.args.t.now in
-    let f = c.args.words.now in
+    let b = c.args.f.now.ruled.now.declared.table.bytes.now in
+    let f = c.args.f.now.words.now in
     let s = sample_at b c.args.j in
     sym
     (ap (holds (subframes_of b) f s) c.requires.raw_value
     ∙ plain_holds (subframes_of b) s f (not_overlapped_lem s (sym c.requires.laps_value ∙ c.if-not-laps.true)))
 
 pub holds_at-requires : goal.holds_at-requires
-holds_at-requires c = let p = c.requires in record { ruled_by = p.ruled_by; bases_of = p.bases_of; sample_here = p.sample_here; sample_law = p.sample_law; words_len = p.words_len }
+holds_at-requires c = let p = c.requires in record { sample_here = p.sample_here; sample_law = p.sample_law }
 
 pub returns : goal.returns
 returns c = c.holds_at.ensures

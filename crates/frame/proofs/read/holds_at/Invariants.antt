@@ -1,7 +1,7 @@
 -- The components before k are their bits of v; what the place so far is.
 use mathlib.Core.Path.{◌≡◌}
 use mathlib.Core.List.{List}
-use Prim.Native.Nat.{ℕ, ◌-◌, ◌≤◌}
+use Prim.Native.Nat.{ℕ, ◌≤◌}
 use Rattle.lay.proofs.Passing.{Passed}
 use Rattle.model.specs.Forms.{limits_in}
 use Rattle.model.specs.Samples.{place_in, holds_at}
@@ -16,7 +16,4 @@ pub record Held (b f : List ℕ) (j v count at k : ℕ) : Type 0 where
   pub narrow : (limits_in b).width ≤ 32
 
 abbrev pub invariant-loop-k : goal.invariant-loop-k
-invariant-loop-k l = Held l.t l.words l.j l.v l.count l.at l.k
-
-abbrev pub decreases-loop-k : goal.decreases-loop-k
-decreases-loop-k l = l.count - l.k
+invariant-loop-k l = Held l.f.ruled.now.declared.table.bytes.now l.f.words.now l.j l.v l.count l.at l.k

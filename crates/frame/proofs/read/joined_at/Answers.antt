@@ -63,19 +63,19 @@ module _ {b f : List ℕ} {j first count raw wide over k : ℕ} (v : Passed b f 
 
 pub sample_at-s-requires : goal.sample_at-s-requires
 sample_at-s-requires c =
-    record { opened_of = c.requires.ruled_by.opened; j_bound = c.requires.sample_here.here }
+    record { j_bound = c.requires.sample_here.here }
 
 pub loop-k-init : goal.loop-k-init
 unfolding width_of
 loop-k-init c =
-    let b = c.args.t.now in
+    let b = c.args.f.now.ruled.now.declared.table.bytes.now in
     let e = c.sample_at-s.ensures in
     record {
       firsts = e.first_is;
       counted = e.count_is;
       inside = omega arith;
-      narrow = omega (arith, c.requires.sample_law.narrow, c.requires.ruled_by.ruled.subframes.within.width);
-      done = joining_starts _ _ (within b c.args.words.now c.args.j c.requires.ruled_by.ruled c.requires.sample_law c.requires.words_len);
+      narrow = omega (arith, c.requires.sample_law.narrow, c.args.f.now.ruled.now.ruled.subframes.within.width);
+      done = joining_starts _ _ (within b c.args.f.now.words.now c.args.j c.args.f.now.ruled.now.ruled c.requires.sample_law c.args.f.now.words_len);
       overs = refl;
       few = e.count_below;
       small = omega arith;
@@ -83,13 +83,13 @@ loop-k-init c =
 
 pub piece_at-c-requires : goal.piece_at-c-requires
 piece_at-c-requires c =
-    let b = c.args.t.now in
+    let b = c.args.f.now.ruled.now.declared.table.bytes.now in
     let v = c.loop-k.invariant in
     let l = c.loop-k-test.true in
     let k = c.loop-k.k in
-    let r = stored b c.args.j c.requires.ruled_by.ruled.subframes.within c.requires.sample_law in
+    let r = stored b c.args.j c.args.f.now.ruled.now.ruled.subframes.within c.requires.sample_law in
     let law = subst (λ (n : ℕ). ComponentLaw (subframes_of b) (component_at b (n + k))) (sym v.firsts) (r.each k (omega (arith, v, l))) in
-    record { opened_of = c.requires.ruled_by.opened; k_bound = omega (arith, v, l, c.requires.sample_here); subframes_law = c.requires.ruled_by.ruled.subframes; bases_of = c.requires.bases_of; component_law = law }
+    record { k_bound = omega (arith, v, l, c.requires.sample_here); component_law = law }
 
 pub part-requires : goal.part-requires
 part-requires c = fits c.loop-k.invariant c.loop-k-test.true c.piece_at-c.ensures
@@ -117,35 +117,32 @@ overflow_add-width c =
 pub component_at-e-requires : goal.component_at-e-requires
 component_at-e-requires c =
     let v = c.loop-k.invariant in
-    record { opened_of = c.requires.ruled_by.opened; k_bound = omega (arith, v, c.loop-k-test.true, c.requires.sample_here) }
+    record { k_bound = omega (arith, v, c.loop-k-test.true, c.requires.sample_here) }
 
 pub overflow_add-over : goal.overflow_add-over
 overflow_add-over c = omega (arith, c.loop-k.invariant, c.loop-k-test.true, c.component_at-e.ensures.overlap_below)
-
-pub loop-k-smaller : goal.loop-k-smaller
-loop-k-smaller c = omega (arith, c.loop-k.invariant, c.loop-k-test.true)
 
 pub loop-k-preserved : goal.loop-k-preserved
 loop-k-preserved c =
     let v = c.loop-k.invariant in
     let l = c.loop-k-test.true in
     let e = c.component_at-e.ensures in
-    let x = overlap_read c.args.t.now c.args.j c.loop-k.k _ v.firsts (omega (arith, v, l)) e in
+    let x = overlap_read c.args.f.now.ruled.now.declared.table.bytes.now c.args.j c.loop-k.k _ v.firsts (omega (arith, v, l)) e in
     record {
       firsts = v.firsts;
       counted = v.counted;
       inside = omega (arith, v, l);
       narrow = v.narrow;
       done = step v l c.piece_at-c.ensures c.part.ensures c.raised-raw.ensures c.bits_of-width.ensures.0;
-      overs = omega (arith, v.overs, x, sum_more c.loop-k.k (λ i. (component (sample_at c.args.t.now c.args.j) i).overlap));
+      overs = omega (arith, v.overs, x, sum_more c.loop-k.k (λ i. (component (sample_at c.args.f.now.ruled.now.declared.table.bytes.now c.args.j) i).overlap));
       few = v.few;
       small = omega (arith, v, e.overlap_below);
     }
 
 pub returns : goal.returns
 returns c =
-    let f = c.args.words.now in
-    let cs = all_pieces c.args.t.now c.args.j in
+    let f = c.args.f.now.words.now in
+    let cs = all_pieces c.args.f.now.ruled.now.declared.table.bytes.now c.args.j in
     let e = ended c.loop-k.invariant c.loop-k-test.false in
     let raw_is : c.loop-k.raw ≡ join f cs = joining_raw _ _ e in
     let width_is : c.loop-k.width ≡ width cs = joining_width _ _ e in record {

@@ -1,7 +1,7 @@
 -- Each part is added at its weight; what is left joins above. The bits overlapped so far are those of the components passed.
 use mathlib.Core.Path.{◌≡◌}
 use mathlib.Core.List.{List}
-use Prim.Native.Nat.{ℕ, ◌-◌, ◌*◌, ◌≤◌, ◌<◌}
+use Prim.Native.Nat.{ℕ, ◌*◌, ◌≤◌, ◌<◌}
 use Rattle.sample.specs.declared.component.Component.{Component as Piece}
 use Rattle.sample.specs.Joining.{width}
 use Rattle.sample.proofs.Walks.{Joining}
@@ -28,7 +28,4 @@ pub record Passed (b f : List ℕ) (j first count raw wide over k : ℕ) : Type 
   pub small : over ≤ 4294967295 * k
 
 abbrev pub invariant-loop-k : goal.invariant-loop-k
-invariant-loop-k l = Passed l.t l.words l.j l.first l.count l.raw l.width l.over l.k
-
-abbrev pub decreases-loop-k : goal.decreases-loop-k
-decreases-loop-k l = l.count - l.k
+invariant-loop-k l = Passed l.f.ruled.now.declared.table.bytes.now l.f.words.now l.j l.first l.count l.raw l.width l.over l.k

@@ -6,7 +6,4 @@ use Rattle.framing.proofs.Held.{plain_at}
 use Rattle.frame.proofs.read.laps_at.Given as goal
 
 abbrev pub invariant-loop-k : goal.invariant-loop-k
-invariant-loop-k l = Passed (component_count_in l.t l.j - 1) (plain_at l.t l.j) l.last l.k
-
-abbrev pub decreases-loop-k : goal.decreases-loop-k
-decreases-loop-k l = l.last - l.k
+invariant-loop-k l = Passed (component_count_in l.r.declared.table.bytes.now l.j - 1) (plain_at l.r.declared.table.bytes.now l.j) l.last l.k
