@@ -1,5 +1,5 @@
 -- Why a call on a table is refused, with 01's and 02's numbers: the one definition of them for every call.
-use Rattle.std.specs.Prelude.{ℕ}
+use Rattle.std.specs.Prelude.{ℕ, Result, Ok, Err}
 use Rattle.table.specs.declared.reason.Reason.{Reason}
 use Rattle.table.specs.declared.reason.Reason.TheVariants.{Overlapped, NoTable, OtherCount, HighWord, NoParameter, NoSample, TooLarge, NoFrame, UnknownMargin, NoParameters, FewWords, LongStream}
 
@@ -28,3 +28,8 @@ reason_number NoParameters = 27
 reason_number FewWords = 28
 -- 02: "a longer stream"
 reason_number LongStream = 38
+
+-- the number of a call's answer: 0 where it is not refused
+abbrev pub answer_number : {A : Type 0} → Result A Reason → ℕ
+answer_number (Ok _) = 0
+answer_number (Err r) = reason_number r

@@ -13,9 +13,10 @@ pub with_mnemonic-requires : goal.with_mnemonic-requires
 with_mnemonic-requires c = record { entries = opened_entries c.in-Some.ensures }
 
 pub returns-in-Some : goal.returns-in-Some
+unfolding asked_refusal
 returns-in-Some c =
     let h = subst (λ (x : Bor (List ℕ)). c.with_mnemonic.result ≡ called (view x.now) c.args.mnemonic.now) (opened_bytes c.in-Some.ensures) c.with_mnemonic.ensures in
-    c.asked_number.ensures ∙ ap asked_refusal (h ∙ mnemonic_table _ _ (opened_here c.in-Some.ensures))
+    c.answer_number.ensures ∙ ap asked_refusal (h ∙ mnemonic_table _ _ (opened_here c.in-Some.ensures))
 
 pub returns-in-None : goal.returns-in-None
 unfolding asked_refusal

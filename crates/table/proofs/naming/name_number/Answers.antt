@@ -6,8 +6,9 @@ use Rattle.table.proofs.Asking.{number_table, number_no_table}
 use Rattle.table.proofs.naming.name_number.Goals as goal
 
 pub returns-in-Some : goal.returns-in-Some
+unfolding asked_refusal
 returns-in-Some c =
-    c.asked_number.ensures ∙ ap asked_refusal (c.numbered.ensures ∙ number_table _ _ (opened_here c.in-Some.ensures) _ (opened_parameters c.in-Some.ensures))
+    c.answer_number.ensures ∙ ap asked_refusal (c.numbered.ensures ∙ number_table _ _ (opened_here c.in-Some.ensures) _ (opened_parameters c.in-Some.ensures))
 
 pub returns-in-None : goal.returns-in-None
 unfolding asked_refusal
