@@ -7,9 +7,8 @@ use Rattle.lay.specs.Quoted.{quoted}
 use Rattle.model.specs.Content.{Content, parameter}
 use Rattle.model.specs.Forms.{sheet_limits}
 use Rattle.framing.specs.Reading.{raw_of, width_is, value_of}
-use Rattle.framing.specs.declared.fit.Fit.{Fit}
-use Rattle.framing.specs.declared.fit.Fit.TheVariants.{Fits, Refused}
-use Rattle.table.specs.Reasons.{reason_number}
+use Rattle.framing.specs.Fitting.{Fit}
+use Rattle.table.specs.Reasons.{answer_number}
 use Rattle.listed.specs.Decimals.{decimal_text}
 use Rattle.listed.specs.Lines.{end_byte, row_text}
 
@@ -39,8 +38,7 @@ refused_text n l =
 
 -- "19 word count of the frame differs", "20 any word of the frame at or above two to its bits"; 0 where it fits
 unfoldable pub fit_number : Fit → ℕ
-fit_number Fits = 0
-fit_number (Refused r) = reason_number r
+fit_number d = answer_number d
 
 -- "words of two bytes, low first"
 unfoldable pub words_of : List ℕ → List ℕ

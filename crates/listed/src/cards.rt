@@ -2,17 +2,15 @@
 ghost use Rattle.std.specs.Prelude.{◌≡◌, ◌+◌, ◌≤◌, ◌<◌, length};
 ghost use Rattle.io.specs.Counts.{IsPrefixLen};
 ghost use Rattle.lay.specs.Bytes.{put};
-ghost use Rattle.model.specs.Frame.{frame_words};
 ghost use Rattle.model.specs.Stored.{parameters_in, sample_count_in};
 ghost use Rattle.model.specs.View.{view};
-ghost use Rattle.rules.specs.Ruled.{RuledBy, BasesOf};
 ghost use Rattle.listed.specs.Cards.{card_heading_text, card_row, card_row_most, card_rows, card_rows_most};
 
 use crate::listing::{ROW, put_sample};
 use crate::rows::put_field;
+use frame::sized::Frame;
 use lay::put::put_text;
-use model::limits::{SAMPLES_EACH, SUBFRAMES};
-use stored::items::{Opened, parameter_at};
+use model::limits::SAMPLES_EACH;
 
 // Enough for any parameter's rows: each has a position of at most twenty digits and a comma in front.
 pub const CARD_ROWS: usize = (ROW + 21) * SAMPLES_EACH;
@@ -28,54 +26,28 @@ pub fn put_card_heading(out: &mut [u8]) -> usize
 }
 
 // The row of sample j of parameter i, both counted from 0, at o: the position, then the listing's row.
-fn put_card_row(
-    t: &[u8],
-    opened: Opened,
-    words: &[u16],
-    position: u32,
-    i: usize,
-    j: usize,
-    before: &[usize; SUBFRAMES],
-    out: &mut [u8],
-    o: usize,
-) -> usize
-    requires ruled_by { RuledBy t.now opened }
-    requires bases_of { BasesOf t.now before.now }
-    requires i_bound { i < parameters_in t.now }
-    requires j_bound { j < sample_count_in t.now i }
-    requires words_len { length words.now ≡ frame_words (view t.now) }
+fn put_card_row(f: &Frame, position: u32, i: usize, j: usize, out: &mut [u8], o: usize) -> usize
+    requires i_bound { i < parameters_in f.now.ruled.now.declared.table.bytes.now }
+    requires j_bound { j < sample_count_in f.now.ruled.now.declared.table.bytes.now i }
     requires card_row_most_in_bounds { o + card_row_most ≤ length out.old }
-    ensures { (result ≡ o + length (card_row (view t.now) words.now position i j)) × (out.new ≡ put out.old o (card_row (view t.now) words.now position i j)) }
+    ensures { (result ≡ o + length (card_row (view f.now.ruled.now.declared.table.bytes.now) f.now.words.now position i j)) × (out.new ≡ put out.old o (card_row (view f.now.ruled.now.declared.table.bytes.now) f.now.words.now position i j)) }
 {
     let a = put_field(out, o, position as u64, 44);
-    put_sample(t, opened, words, i, j, before, out, a)
+    put_sample(f, i, j, out, a)
 }
 
 // All rows of parameter i, counted from 0.
-pub fn put_card_rows(
-    t: &[u8],
-    opened: Opened,
-    words: &[u16],
-    position: u32,
-    i: usize,
-    before: &[usize; SUBFRAMES],
-    out: &mut [u8],
-) -> usize
-    requires ruled_by { RuledBy t.now opened }
-    requires bases_of { BasesOf t.now before.now }
-    requires i_bound { i < parameters_in t.now }
-    requires words_len { length words.now ≡ frame_words (view t.now) }
+pub fn put_card_rows(f: &Frame, position: u32, i: usize, out: &mut [u8]) -> usize
+    requires i_bound { i < parameters_in f.now.ruled.now.declared.table.bytes.now }
     requires card_rows_most_in_bounds { card_rows_most ≤ length out.old }
-    ensures value { (result ≡ length (card_rows (view t.now) words.now position i)) × (out.new ≡ put out.old 0 (card_rows (view t.now) words.now position i)) }
+    ensures value { (result ≡ length (card_rows (view f.now.ruled.now.declared.table.bytes.now) f.now.words.now position i)) × (out.new ≡ put out.old 0 (card_rows (view f.now.ruled.now.declared.table.bytes.now) f.now.words.now position i)) }
     ensures prefix_len { IsPrefixLen result out.new }
 {
-    let e = parameter_at(t, opened, i);
+    let e = f.ruled.declared.table.parameter_at(i);
     let count = e.count;
     let mut at = 0;
-    let mut j = 0;
-    while j < count {
-        at = put_card_row(t, opened, words, position, i, j, before, out, at);
-        j += 1;
+    for j in 0..count {
+        at = put_card_row(f, position, i, j, out, at);
     }
     at
 }

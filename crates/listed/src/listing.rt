@@ -2,22 +2,19 @@
 ghost use Rattle.std.specs.Prelude.{◌≡◌, ◌+◌, ◌*◌, ◌≤◌, ◌<◌, length};
 ghost use Rattle.io.specs.Counts.{IsPrefixLen};
 ghost use Rattle.lay.specs.Bytes.{put};
-ghost use Rattle.model.specs.Frame.{frame_words};
 ghost use Rattle.model.specs.Stored.{parameters_in, sample_count_in, name_in};
 ghost use Rattle.model.specs.View.{view};
-ghost use Rattle.rules.specs.Ruled.{RuledBy, BasesOf};
 ghost use Rattle.listed.specs.Lines.{row_text};
-ghost use Rattle.listed.specs.Listing.{heading_text, sample_row, row_most, parameter_rows, rows_most, refused_text, fit_number, words_of};
+ghost use Rattle.listed.specs.Listing.{heading_text, sample_row, row_most, parameter_rows, rows_most, refused_text, words_of};
 
 use crate::rows::{put_field, put_part, put_row};
 use frame::read::sample_in;
-use framing::fit::Fit;
+use frame::sized::Frame;
 use framing::read::Reading;
 use lay::put::put_text;
-use model::limits::{SAMPLES_EACH, SUBFRAMES, TEXT};
+use model::limits::{SAMPLES_EACH, TEXT};
+use rules::ruled::RuledTable;
 use rules::texts::name_in;
-use stored::items::{Opened, parameter_at};
-use table::reason::reason_number;
 
 // Enough for any row beside its name, any row, and any parameter's rows.
 const BESIDE: usize = 86;
@@ -47,20 +44,9 @@ pub fn put_refused(out: &mut [u8], number: u32, line: u32) -> usize
     put_field(out, b, line as u64, 10)
 }
 
-// 01's number of a frame's fit: 0 where it fits.
-pub fn fit_number(fit: Fit) -> u32
-    ensures { result ≡ fit_number fit }
-{
-    match fit {
-        Fit::Fits => 0,
-        Fit::Refused(reason) => reason_number(reason),
-    }
-}
-
 // The row of what was read of sample j of parameter i, both counted from 0, at o.
 fn put_read(
-    t: &[u8],
-    opened: Opened,
+    r: &RuledTable,
     i: usize,
     j: usize,
     raw: u32,
@@ -69,77 +55,45 @@ fn put_read(
     out: &mut [u8],
     o: usize,
 ) -> usize
-    requires ruled_by { RuledBy t.now opened }
-    requires i_bound { i < parameters_in t.now }
-    requires j_bound { j < sample_count_in t.now i }
+    requires i_bound { i < parameters_in r.now.declared.table.bytes.now }
+    requires j_bound { j < sample_count_in r.now.declared.table.bytes.now i }
     requires row_most_in_bounds { o + row_most ≤ length out.old }
-    ensures { (result ≡ o + length (row_text (name_in t.now i) (j + 1) width raw value)) × (out.new ≡ put out.old o (row_text (name_in t.now i) (j + 1) width raw value)) }
+    ensures { (result ≡ o + length (row_text (name_in r.now.declared.table.bytes.now i) (j + 1) width raw value)) × (out.new ≡ put out.old o (row_text (name_in r.now.declared.table.bytes.now i) (j + 1) width raw value)) }
 {
-    put_row(
-        out,
-        o,
-        name_in(t, opened, i),
-        j as u64 + 1,
-        width as u64,
-        raw as u64,
-        value,
-    )
+    let name = name_in(&r.declared.table, i);
+    put_row(out, o, name, j as u64 + 1, width as u64, raw as u64, value)
 }
 
 // The row of that sample, whether its copies agree or not.
-pub fn put_sample(
-    t: &[u8],
-    opened: Opened,
-    words: &[u16],
-    i: usize,
-    j: usize,
-    before: &[usize; SUBFRAMES],
-    out: &mut [u8],
-    o: usize,
-) -> usize
-    requires ruled_by { RuledBy t.now opened }
-    requires bases_of { BasesOf t.now before.now }
-    requires i_bound { i < parameters_in t.now }
-    requires j_bound { j < sample_count_in t.now i }
-    requires words_len { length words.now ≡ frame_words (view t.now) }
+pub fn put_sample(f: &Frame, i: usize, j: usize, out: &mut [u8], o: usize) -> usize
+    requires i_bound { i < parameters_in f.now.ruled.now.declared.table.bytes.now }
+    requires j_bound { j < sample_count_in f.now.ruled.now.declared.table.bytes.now i }
     requires row_most_in_bounds { o + row_most ≤ length out.old }
-    ensures { (result ≡ o + length (sample_row (view t.now) words.now i j)) × (out.new ≡ put out.old o (sample_row (view t.now) words.now i j)) }
+    ensures { (result ≡ o + length (sample_row (view f.now.ruled.now.declared.table.bytes.now) f.now.words.now i j)) × (out.new ≡ put out.old o (sample_row (view f.now.ruled.now.declared.table.bytes.now) f.now.words.now i j)) }
 {
-    match sample_in(t, opened, words, i, j, before) {
+    match sample_in(f, i, j) {
         Reading::Sample { raw, width, value } => {
-            put_read(t, opened, i, j, raw, width, value, out, o)
+            put_read(f.ruled, i, j, raw, width, value, out, o)
         }
         Reading::OverlapDiffers { raw, width, value } => {
-            put_read(t, opened, i, j, raw, width, value, out, o)
+            put_read(f.ruled, i, j, raw, width, value, out, o)
         }
         Reading::Refused(_) => o,
     }
 }
 
 // All rows of parameter i, counted from 0.
-pub fn put_parameter(
-    t: &[u8],
-    opened: Opened,
-    words: &[u16],
-    i: usize,
-    before: &[usize; SUBFRAMES],
-    out: &mut [u8],
-) -> usize
-    requires ruled_by { RuledBy t.now opened }
-    requires bases_of { BasesOf t.now before.now }
-    requires i_bound { i < parameters_in t.now }
-    requires words_len { length words.now ≡ frame_words (view t.now) }
+pub fn put_parameter(f: &Frame, i: usize, out: &mut [u8]) -> usize
+    requires i_bound { i < parameters_in f.now.ruled.now.declared.table.bytes.now }
     requires rows_most_in_bounds { rows_most ≤ length out.old }
-    ensures value { (result ≡ length (parameter_rows (view t.now) words.now i)) × (out.new ≡ put out.old 0 (parameter_rows (view t.now) words.now i)) }
+    ensures value { (result ≡ length (parameter_rows (view f.now.ruled.now.declared.table.bytes.now) f.now.words.now i)) × (out.new ≡ put out.old 0 (parameter_rows (view f.now.ruled.now.declared.table.bytes.now) f.now.words.now i)) }
     ensures prefix_len { IsPrefixLen result out.new }
 {
-    let e = parameter_at(t, opened, i);
+    let e = f.ruled.declared.table.parameter_at(i);
     let count = e.count;
     let mut at = 0;
-    let mut j = 0;
-    while j < count {
-        at = put_sample(t, opened, words, i, j, before, out, at);
-        j += 1;
+    for j in 0..count {
+        at = put_sample(f, i, j, out, at);
     }
     at
 }
@@ -150,9 +104,7 @@ pub fn put_words(bytes: &[u8], words: &mut [u16])
     ensures { words.new ≡ put words.old 0 (words_of bytes.now) }
 {
     let n = bytes.len() / 2;
-    let mut i = 0;
-    while i < n {
+    for i in 0..n {
         words[i] = lay::two_at(bytes, 2 * i) as u16;
-        i += 1;
     }
 }

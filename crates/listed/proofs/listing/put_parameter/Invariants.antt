@@ -1,12 +1,8 @@
 -- Row after row.
-use Prim.Native.Nat.{◌-◌}
 use Rattle.model.specs.View.{view}
 use Rattle.listed.specs.Listing.{sample_row, row_most}
 use Rattle.listed.proofs.RowLaws.{Rows}
 use Rattle.listed.proofs.listing.put_parameter.Given as goal
 
 abbrev pub invariant-loop-j : goal.invariant-loop-j
-invariant-loop-j l = Rows l.t l.i (sample_row (view l.t) l.words l.i) row_most l.initial.out l.out l.at l.j
-
-abbrev pub decreases-loop-j : goal.decreases-loop-j
-decreases-loop-j l = l.count - l.j
+invariant-loop-j l = Rows l.f.ruled.now.declared.table.bytes.now l.i (sample_row (view l.f.ruled.now.declared.table.bytes.now) l.f.words.now l.i) row_most l.initial.out l.out l.at l.j

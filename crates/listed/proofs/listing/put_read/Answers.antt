@@ -11,19 +11,19 @@ use Rattle.listed.proofs.RowLaws.{name_short, count_short}
 use borrow.Author.Rules.{rules}
 use Rattle.listed.proofs.listing.put_read.Goals as goal
 
-pub name_in-requires : goal.name_in-requires
-name_in-requires c = let s = c.requires in record { opened_of = s.ruled_by.opened; parameter_here = parameter_here _ s.ruled_by.ruled.laid.entries _ s.i_bound }
+pub name_in-name-requires : goal.name_in-name-requires
+name_in-name-requires c = record { parameter_here = parameter_here _ c.args.r.now.ruled.laid.entries _ c.requires.i_bound }
 
 pub overflow_add-j : goal.overflow_add-j
 overflow_add-j c =
-    let k = count_short c.args.t.now c.requires.ruled_by.ruled c.args.i c.requires.i_bound in
+    let k = count_short c.args.r.now.declared.table.bytes.now c.args.r.now.ruled c.args.i c.requires.i_bound in
     let h : c.args.j + 1 ≤ sheet_limits.samples_each = omega (arith, k, c.requires.j_bound) in
     search rules
 
 pub put_row-requires : goal.put_row-requires
 put_row-requires c =
-    let n = name_short c.args.t.now c.requires.ruled_by.ruled c.args.i c.requires.i_bound in
-    omega (arith, n, ap length c.name_in.ensures.0, c.requires.row_most_in_bounds)
+    let n = name_short c.args.r.now.declared.table.bytes.now c.args.r.now.ruled c.args.i c.requires.i_bound in
+    omega (arith, n, ap length c.name_in-name.ensures.0, c.requires.row_most_in_bounds)
 
 pub returns : goal.returns
-returns c = row_named _ _ _ _ _ _ _ _ _ _ _ (to_z-of_z c.ranges.value) c.name_in.ensures.0 c.put_row.ensures
+returns c = row_named _ _ _ _ _ _ _ _ _ _ _ (to_z-of_z c.ranges.value) c.name_in-name.ensures.0 c.put_row.ensures

@@ -5,32 +5,32 @@ use Rattle.listed.proofs.RowLaws.{value_back, read_row, never_refused}
 use Rattle.listed.proofs.listing.put_sample.Goals as goal
 
 pub sample_in-requires : goal.sample_in-requires
-sample_in-requires c = let s = c.requires in record { ruled_by = s.ruled_by; bases_of = s.bases_of; i_bound = s.i_bound; j_bound = s.j_bound; words_len = s.words_len }
+sample_in-requires c = record { i_bound = c.requires.i_bound; j_bound = c.requires.j_bound }
 
 pub put_read-requires : goal.put_read-requires
-put_read-requires c = let s = c.requires in record { ruled_by = s.ruled_by; i_bound = s.i_bound; j_bound = s.j_bound; row_most_in_bounds = s.row_most_in_bounds }
+put_read-requires c = c.requires
 
 pub put_read-requires-in-OverlapDiffers : goal.put_read-requires-in-OverlapDiffers
-put_read-requires-in-OverlapDiffers c = let s = c.requires in record { ruled_by = s.ruled_by; i_bound = s.i_bound; j_bound = s.j_bound; row_most_in_bounds = s.row_most_in_bounds }
+put_read-requires-in-OverlapDiffers c = c.requires
 
 pub returns-in-Sample : goal.returns-in-Sample
 returns-in-Sample c =
-    let t = c.args.t.now in
-    let u = c.requires.ruled_by.ruled in
+    let t = c.args.f.now.ruled.now.declared.table.bytes.now in
+    let u = c.args.f.now.ruled.now.ruled in
     let l = c.requires.i_bound in
     let e = sym c.in-Sample.is ∙ c.sample_in.ensures in
     read_row t u c.args.i l _ _ _ _ _ _ _ _ _ _ _ e (refl, refl, λ z. refl) refl
-    (row_back _ _ _ _ _ _ _ _ _ _ (value_back t u c.args.i l c.args.words.now c.args.j c.requires.j_bound _ _ e (λ z. refl)) c.put_read.ensures)
+    (row_back _ _ _ _ _ _ _ _ _ _ (value_back t u c.args.i l c.args.f.now.words.now c.args.j c.requires.j_bound _ _ e (λ z. refl)) c.put_read.ensures)
 
 pub returns-in-OverlapDiffers : goal.returns-in-OverlapDiffers
 returns-in-OverlapDiffers c =
-    let t = c.args.t.now in
-    let u = c.requires.ruled_by.ruled in
+    let t = c.args.f.now.ruled.now.declared.table.bytes.now in
+    let u = c.args.f.now.ruled.now.ruled in
     let l = c.requires.i_bound in
     let e = sym c.in-OverlapDiffers.is ∙ c.sample_in.ensures in
     read_row t u c.args.i l _ _ _ _ _ _ _ _ _ _ _ e (refl, refl, λ z. refl) refl
-    (row_back _ _ _ _ _ _ _ _ _ _ (value_back t u c.args.i l c.args.words.now c.args.j c.requires.j_bound _ _ e (λ z. refl)) c.put_read-in-OverlapDiffers.ensures)
+    (row_back _ _ _ _ _ _ _ _ _ _ (value_back t u c.args.i l c.args.f.now.words.now c.args.j c.requires.j_bound _ _ e (λ z. refl)) c.put_read-in-OverlapDiffers.ensures)
 
 pub returns-in-Refused : goal.returns-in-Refused
 returns-in-Refused c =
-    absurd (never_refused c.args.t.now c.requires.ruled_by.ruled c.args.i c.requires.i_bound _ _ _ (sym c.in-Refused.is ∙ c.sample_in.ensures))
+    absurd (never_refused c.args.f.now.ruled.now.declared.table.bytes.now c.args.f.now.ruled.now.ruled c.args.i c.requires.i_bound _ _ _ (sym c.in-Refused.is ∙ c.sample_in.ensures))
