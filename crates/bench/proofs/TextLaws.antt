@@ -16,7 +16,6 @@ use Rattle.model.specs.Forms.{sheet_limits}
 use Rattle.model.specs.View.{view}
 use Rattle.model.proofs.Views.{parameters_view}
 use Rattle.table.specs.Answers.{numbered_of, asked_number, name_answered}
-use Rattle.table.specs.declared.naming.Asked.TheVariants.{Parameter, Refused}
 use Rattle.table.proofs.Accepting.{accepted_ruled}
 use Rattle.framing.specs.Reading.{read_of}
 use Rattle.framing.specs.declared.read.Reading.{Reading}
@@ -27,6 +26,7 @@ use Rattle.listed.specs.Lines.{row_text}
 use Rattle.listed.specs.Listing.{row_most, words_of}
 use Rattle.listed.proofs.RowLaws.{name_is, name_short}
 use Rattle.bench.specs.Texts.{Fills, row_of, row_for, WordsFill}
+use Rattle.std.specs.Prelude.{Result, Ok, Err}
 
 -- ---- a text
 
@@ -61,7 +61,7 @@ pub answered_short : (b : List ℕ) (p : ℕ) → length (name_answered b (asked
 unfolding asked_number numbered_of name_answered
 answered_short b p = go (accepts b) refl
   where
-    within : (x y : Bool) → leb 1 p ≡ x → leb p (parameters (view b)) ≡ y → accepts b ≡ true → length (name_answered b (cond (x && y) (Parameter (p - 1)) (Refused NoParameter))) ≤ sheet_limits.text
+    within : (x y : Bool) → leb 1 p ≡ x → leb p (parameters (view b)) ≡ y → accepts b ≡ true → length (name_answered b (cond (x && y) (Ok (p - 1)) (Err NoParameter))) ≤ sheet_limits.text
     within true true e g a =
         let l = leb-true 1 p e in
         let u = leb-true p (parameters (view b)) g in
@@ -72,7 +72,7 @@ answered_short b p = go (accepts b) refl
     within true false e g a = omega arith
     within false y e g a = omega arith
 
-    go : (t : Bool) → accepts b ≡ t → length (name_answered b (cond t (cond (leb 1 p && leb p (parameters (view b))) (Parameter (p - 1)) (Refused NoParameter)) (Refused NoTable))) ≤ sheet_limits.text
+    go : (t : Bool) → accepts b ≡ t → length (name_answered b (cond t (cond (leb 1 p && leb p (parameters (view b))) (Ok (p - 1)) (Err NoParameter)) (Err NoTable))) ≤ sheet_limits.text
     go true a = within (leb 1 p) (leb p (parameters (view b))) refl refl a
     go false a = omega arith
 

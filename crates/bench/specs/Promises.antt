@@ -4,17 +4,15 @@ use Rattle.std.specs.Borrow.{Bor}
 use Rattle.gather.specs.Ruling.{judge_of}
 use Rattle.maker.specs.Made.{made_of, left_of, made_number}
 use Rattle.maker.specs.declared.make.Made.{Made}
-use Rattle.table.specs.Answers.{check_of, check_number, NameOf, asked_number, asked_mnemonic, asked_refusal}
-use Rattle.table.specs.declared.check.Checked.{Checked}
+use Rattle.table.specs.Answers.{Checked, check_of, check_number, NameOf, asked_number, asked_mnemonic, asked_refusal}
 use Rattle.framing.specs.Reading.{read_of, read_number}
-use Rattle.framing.specs.Placing.{place_of, placed_of, place_number}
+use Rattle.framing.specs.Placing.{Placed, place_of, placed_of, place_number}
 use Rattle.framing.specs.Comparing.{compared_of, compared_number}
 use Rattle.framing.specs.Paging.{paged_of, results_of}
 use Rattle.framing.specs.declared.page.Request.{Request}
 use Rattle.framing.specs.declared.page.Outcome.{Outcome}
 use Rattle.framing.specs.declared.page.Paged.{Paged}
 use Rattle.framing.specs.declared.read.Reading.{Reading}
-use Rattle.framing.specs.declared.place.Placed.{Placed}
 use Rattle.framing.specs.declared.compare.Compared.{Compared}
 use Rattle.carding.specs.Answer.{carded_of, handed_of, carded_number, bits_of_frame}
 use Rattle.carding.specs.declared.carded.Carded.{Carded}

@@ -2,8 +2,8 @@
 ghost use Rattle.bench.specs.Promises.{Reads, ReadNumbered, Places, PlaceNumbered, Compares, CompareNumbered};
 
 use framing::compare::Compared;
-use framing::place::Placed;
 use framing::read::Reading;
+use table::reason::{Reason, answer_number};
 
 pub fn read(t: &[u8], words: &[u16], parameter: u32, sample: u32) -> Reading
     ensures { Reads t.now words.now parameter sample result }
@@ -19,17 +19,23 @@ pub fn read_number(reading: Reading) -> u32
 }
 
 // A raw value placed; no word is changed where it is refused.
-pub fn place(t: &[u8], words: &mut [u16], parameter: u32, sample: u32, value: u64) -> Placed
+pub fn place(
+    t: &[u8],
+    words: &mut [u16],
+    parameter: u32,
+    sample: u32,
+    value: u64,
+) -> Result<(), Reason>
     ensures { Places t.now words.old parameter sample value result words.new }
 {
     frame::place::place(t, words, parameter, sample, value)
 }
 
 // The same numbers, then 23.
-pub fn place_number(placed: Placed) -> u32
+pub fn place_number(placed: Result<(), Reason>) -> u32
     ensures { PlaceNumbered placed result }
 {
-    frame::place::place_number(placed)
+    answer_number(&placed)
 }
 
 // The frame against its identifiers.

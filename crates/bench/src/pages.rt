@@ -1,7 +1,7 @@
 // A page of reads from one frame: the table is checked and the frame judged once for all of them.
 ghost use Rattle.bench.specs.Promises.{Pages};
 
-use frame::page::{outcome_by, page_bases, page_of};
+use frame::page::{outcome_by, page_of};
 use framing::page::{Outcome, Paged, REQUESTS, Request};
 
 // Each result is what a read of its request answers, its refusal included, and results beyond the requests stay. 29 for more than
@@ -27,18 +27,8 @@ pub fn read_page(
         };
     }
     let page = page_of(table, words);
-    let before = page_bases(table, page);
-    let mut i: usize = 0;
-    while i < requests.len() {
-        results[i] = outcome_by(
-            table,
-            words,
-            page,
-            &before,
-            requests[i].parameter,
-            requests[i].sample,
-        );
-        i = i + 1;
+    for i in 0..requests.len() {
+        results[i] = outcome_by(&page, requests[i].parameter, requests[i].sample);
     }
     Paged {
         number: 0,

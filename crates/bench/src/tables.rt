@@ -1,19 +1,19 @@
 // A table of whoever made it: the check, and its parameters' names.
 ghost use Rattle.bench.specs.Promises.{Checks, CheckNumbered, Names, NameNumbered, NamesBy, NameByNumbered};
 
-use table::check::Checked;
+use table::reason::{Reason, answer_number};
 
-pub fn check(t: &[u8]) -> Checked
+pub fn check(t: &[u8]) -> Result<(), Reason>
     ensures { Checks t.now result }
 {
     table::check::check(t)
 }
 
 // 0 or 18.
-pub fn check_number(checked: Checked) -> u32
+pub fn check_number(checked: Result<(), Reason>) -> u32
     ensures { CheckNumbered checked result }
 {
-    table::check::check_number(checked)
+    answer_number(&checked)
 }
 
 // The name of the parameter with this number, as the table's own bytes; empty where refused.

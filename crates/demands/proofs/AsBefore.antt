@@ -22,9 +22,6 @@ use Rattle.table.proofs.Accepting.{accepts_lawful}
 use Rattle.model.specs.FormOne.{base_view, base_accepts}
 use Rattle.model.proofs.FormOnes.{base_accepts_lem, base_view_lem, base_kept}
 use Rattle.table.specs.Answers.{check_of, numbered, called, asked_number, asked_mnemonic, name_answered}
-use Rattle.table.specs.declared.check.Checked.TheVariants.{Table, NotTable}
-use Rattle.table.specs.declared.naming.Asked.{Asked}
-use Rattle.table.specs.declared.naming.Asked.TheVariants as asked
 use Rattle.table.specs.declared.reason.Reason.{Reason}
 use Rattle.table.specs.declared.reason.Reason.TheVariants.{NoTable}
 use Rattle.framing.specs.Fitting.{fit_of}
@@ -32,33 +29,34 @@ use Rattle.framing.specs.Wanted.{wanted_in, wanted_of}
 use Rattle.framing.specs.Reading.{read_for, read_of}
 use Rattle.framing.specs.Placing.{laps_in, place_for, place_of, placed_for, placed_of}
 use Rattle.framing.specs.Comparing.{fitted_compared, compared_in, compared_of}
-use Rattle.framing.specs.declared.want.Wanted.{Wanted}
-use Rattle.framing.specs.declared.want.Wanted.TheVariants as wanted
 use Rattle.framing.specs.declared.compare.Compared.TheVariants as compared
 use Rattle.framing.proofs.WantCases.{wanted_found}
 use Rattle.framing.specs.Wanted.{has_parameter, has_sample}
 use Rattle.demands.proofs.Unlapped.{base_read, base_place, base_placed, base_compared, plain_read, plain_place, plain_placed, none_overlaps, plain_compared}
+use Rattle.std.specs.Prelude.{Result, Ok, Err}
+use Rattle.framing.specs.Wanted.{Wanted}
+use Rattle.table.specs.Answers.{Asked}
 
 -- the base's definitions
 module _ (b : List ℕ) where
   abbrev base_wanted : List ℕ → ℕ → ℕ → Wanted
-  base_wanted f p s = cond (base_accepts b) (wanted_in (base_view b) f p s) (wanted.Refused NoTable)
+  base_wanted f p s = cond (base_accepts b) (wanted_in (base_view b) f p s) (Err NoTable)
 
   abbrev base_numbered : ℕ → Asked
-  base_numbered p = cond (base_accepts b) (numbered (base_view b) p) (asked.Refused NoTable)
+  base_numbered p = cond (base_accepts b) (numbered (base_view b) p) (Err NoTable)
 
   abbrev base_called : List ℕ → Asked
-  base_called m = cond (base_accepts b) (called (base_view b) m) (asked.Refused NoTable)
+  base_called m = cond (base_accepts b) (called (base_view b) m) (Err NoTable)
 
   pub record AsBefore : Type 0 where
-    pub checks : check_of b ≡ cond (base_accepts b) Table NotTable
+    pub checks : check_of b ≡ cond (base_accepts b) (Ok tt) (Err NoTable)
     pub reads : (f : List ℕ) (p s : ℕ) → read_of b f p s ≡ base_read (base_view b) f (base_wanted f p s)
     pub places : (f : List ℕ) (p s v : ℕ) → place_of b f p s v ≡ base_place (base_view b) (base_wanted f p s) v
     pub placed : (f : List ℕ) (p s v : ℕ) → placed_of b f p s v ≡ base_placed (base_view b) f (base_wanted f p s) v
     pub compares : (f : List ℕ) → compared_of b f ≡ cond (base_accepts b) (fitted_compared (fit_of (base_view b) f) (base_compared (base_view b) f)) (compared.Refused NoTable)
     pub asks : (p : ℕ) → asked_number b p ≡ base_numbered p
     pub asks_by : (m : List ℕ) → asked_mnemonic b m ≡ base_called m
-    pub names : (i : ℕ) → base_accepts b ≡ true → name_answered b (asked.Parameter i) ≡ (parameter (base_view b) i).name
+    pub names : (i : ℕ) → base_accepts b ≡ true → name_answered b (Ok i) ≡ (parameter (base_view b) i).name
 
 -- a table of a form that has no overlap: forms 1 and 2
 module _ (b : List ℕ) (none : (limits_in b).overlap ≡ 0) where
@@ -66,25 +64,25 @@ module _ (b : List ℕ) (none : (limits_in b).overlap ≡ 0) where
     lawfully : Lawful (limits_in b) (view b)
     lawfully = lawful_law (limits_in b) (view b) (accepts_lawful b h)
 
-    plain : (f : List ℕ) (p s i j : ℕ) → wanted_in (view b) f p s ≡ wanted.Listed i j → overlapped (sample (parameter (view b) i) j) ≡ false
+    plain : (f : List ℕ) (p s i j : ℕ) → wanted_in (view b) f p s ≡ Ok (i, j) → overlapped (sample (parameter (view b) i) j) ≡ false
     plain f p s i j e =
         let x = wanted_found b f p s i j e in
         none_overlaps (limits_in b) none (view b) lawfully i j (omega (arith, x.parameter, parameters_view b)) (omega (arith, x.sample, samples_are b i x.parameter))
 
-  listed : (f : List ℕ) (p s i j : ℕ) → wanted_of b f p s ≡ wanted.Listed i j → overlapped (sample (parameter (view b) i) j) ≡ false
+  listed : (f : List ℕ) (p s i j : ℕ) → wanted_of b f p s ≡ Ok (i, j) → overlapped (sample (parameter (view b) i) j) ≡ false
   unfolding wanted_of
   listed f p s i j e = go (accepts b) refl e
     where
-      go : (t : Bool) → accepts b ≡ t → cond t (wanted_in (view b) f p s) (wanted.Refused NoTable) ≡ wanted.Listed i j → overlapped (sample (parameter (view b) i) j) ≡ false
+      go : (t : Bool) → accepts b ≡ t → cond t (wanted_in (view b) f p s) (Err NoTable) ≡ Ok (i, j) → overlapped (sample (parameter (view b) i) j) ≡ false
       go true h e = plain h f p s i j e
       go false h e = absurd (let z : ◌≡◌ {A = ℕ} 0 1 = cc in omega arith)
 
-  either_way : {A : Type 0} (F G : Wanted → A) (f : List ℕ) (p s : ℕ) → ((i j : ℕ) → overlapped (sample (parameter (view b) i) j) ≡ false → F (wanted.Listed i j) ≡ G (wanted.Listed i j)) → ((r : Reason) → F (wanted.Refused r) ≡ G (wanted.Refused r)) → F (wanted_of b f p s) ≡ G (wanted_of b f p s)
+  either_way : {A : Type 0} (F G : Wanted → A) (f : List ℕ) (p s : ℕ) → ((i j : ℕ) → overlapped (sample (parameter (view b) i) j) ≡ false → F (Ok (i, j)) ≡ G (Ok (i, j))) → ((r : Reason) → F (Err r) ≡ G (Err r)) → F (wanted_of b f p s) ≡ G (wanted_of b f p s)
   either_way F G f p s some refused = go (wanted_of b f p s) refl
     where
       go : (w : Wanted) → wanted_of b f p s ≡ w → F w ≡ G w
-      go (wanted.Listed i j) e = some i j (listed f p s i j e)
-      go (wanted.Refused r) e = refused r
+      go (Ok (i, j)) e = some i j (listed f p s i j e)
+      go (Err r) e = refused r
 
   pub plain_reads : (f : List ℕ) (p s : ℕ) → read_of b f p s ≡ base_read (view b) f (wanted_of b f p s)
   unfolding read_of read_for
@@ -129,12 +127,12 @@ unfolding check_of wanted_of asked_number asked_mnemonic name_answered limits_in
 as_before b one =
     let none : (limits_in b).overlap ≡ 0 = ap (λ (f : ℕ). (limits_of f).overlap) one in
     record {
-      checks = base_kept b one (λ t c. cond t Table NotTable) (λ c d. refl);
-      reads = λ f p s. plain_reads b none f p s ∙ base_kept b one (λ t c. base_read c f (cond t (wanted_in c f p s) (wanted.Refused NoTable))) (λ c d. refl);
-      places = λ f p s v. plain_places b none f p s v ∙ base_kept b one (λ t c. base_place c (cond t (wanted_in c f p s) (wanted.Refused NoTable)) v) (λ c d. refl);
-      placed = λ f p s v. plain_leaves b none f p s v ∙ base_kept b one (λ t c. base_placed c f (cond t (wanted_in c f p s) (wanted.Refused NoTable)) v) (λ c d. refl);
+      checks = base_kept b one (λ t c. cond t (Ok tt) (Err NoTable)) (λ c d. refl);
+      reads = λ f p s. plain_reads b none f p s ∙ base_kept b one (λ t c. base_read c f (cond t (wanted_in c f p s) (Err NoTable))) (λ c d. refl);
+      places = λ f p s v. plain_places b none f p s v ∙ base_kept b one (λ t c. base_place c (cond t (wanted_in c f p s) (Err NoTable)) v) (λ c d. refl);
+      placed = λ f p s v. plain_leaves b none f p s v ∙ base_kept b one (λ t c. base_placed c f (cond t (wanted_in c f p s) (Err NoTable)) v) (λ c d. refl);
       compares = λ f. plain_compares b none f ∙ base_kept b one (λ t c. cond t (fitted_compared (fit_of c f) (base_compared c f)) (compared.Refused NoTable)) (λ c d. refl);
-      asks = λ p. base_kept b one (λ t c. cond t (numbered c p) (asked.Refused NoTable)) (λ c d. refl);
-      asks_by = λ m. base_kept b one (λ t c. cond t (called c m) (asked.Refused NoTable)) (λ c d. refl);
+      asks = λ p. base_kept b one (λ t c. cond t (numbered c p) (Err NoTable)) (λ c d. refl);
+      asks_by = λ m. base_kept b one (λ t c. cond t (called c m) (Err NoTable)) (λ c d. refl);
       names = λ i h. ap (λ (c : Content). (parameter c i).name) (base_view_lem b one (base_accepts_lem b one ∙ h));
     }

@@ -8,13 +8,13 @@ use Rattle.framing.specs.Reading.{read_of, read_number}
 use Rattle.framing.specs.Placing.{place_of, placed_of}
 use Rattle.framing.specs.declared.read.Reading.{Reading}
 use Rattle.framing.specs.declared.read.Reading.TheVariants as reading
-use Rattle.framing.specs.declared.place.Placed.{Placed}
-use Rattle.framing.specs.declared.place.Placed.TheVariants as placing
 use Rattle.framing.specs.declared.compare.Compared.TheVariants as compared
 use Rattle.demands.specs.Calls.{Calls}
 use Rattle.demands.specs.Demands.{Demands}
 use Rattle.demands.proofs.Ours.{ours}
 use Rattle.demands.proofs.Useless.{some_read_refused}
+use Rattle.std.specs.Prelude.{Result, Ok, Err}
+use Rattle.framing.specs.Placing.{Placed}
 
 -- a refused read is answered with 7 of 3 bits
 abbrev answered : Reading → Reading
@@ -24,8 +24,8 @@ answered (reading.Refused w) = reading.Sample 7 3 (pos 7)
 
 -- the words are wiped on bad input
 abbrev wiped : Placed → List ℕ → List ℕ
-wiped placing.Done g = g
-wiped (placing.Refused w) g = []
+wiped (Ok _) g = g
+wiped (Err w) g = []
 
 abbrev bad : Calls
 bad =
@@ -34,7 +34,7 @@ bad =
       made = ours.made;
       check = ours.check;
       read = λ t f p s. answered (read_of t f p s);
-      place = λ t f p s v. placing.Done;
+      place = λ t f p s v. (Ok tt);
       placed = λ t f p s v. wiped (place_of t f p s v) (placed_of t f p s v);
       compare = λ t f. compared.Passes;
       page = ours.page;

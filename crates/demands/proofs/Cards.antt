@@ -21,7 +21,6 @@ use Rattle.model.specs.Frame.{frame_words, words_ok, meets}
 use Rattle.model.specs.View.{view}
 use Rattle.framing.specs.Fitting.{fit_of}
 use Rattle.framing.specs.Comparing.{fitted_compared, compared_of, compared_number}
-use Rattle.framing.specs.declared.fit.Fit.TheVariants.{Fits}
 use Rattle.framing.specs.declared.compare.Compared.{Compared}
 use Rattle.framing.specs.declared.compare.Compared.TheVariants.{Passes}
 use Rattle.framing.specs.declared.compare.Compared.TheVariants as compared
@@ -43,6 +42,7 @@ use Rattle.demands.specs.Refusing.{first_broken, card_rules, bits_rules, has_par
 use Rattle.demands.specs.Demands.{FrameHanded}
 use Rattle.demands.proofs.Numbers.{found_any}
 use Rattle.demands.proofs.Unbroken.{holds_first}
+use Rattle.std.specs.Prelude.{Result, Ok, Err}
 
 -- ---- the tests of the rules are those of our definitions
 
@@ -205,9 +205,9 @@ module _ (t y : List ℕ) (from : ℕ) (w : List ℕ) (h : Findable t y from w) 
   unfolding fit_of fitted_compared agrees_at
   front_passes =
       let m = frame_meets c y at in
-      let fit : fit_of c (frame_at c y at) ≡ Fits = rw (meets_long c (frame_at c y at) m, meets_words c (frame_at c y at) m) in
+      let fit : fit_of c (frame_at c y at) ≡ Ok tt = rw (meets_long c (frame_at c y at) m, meets_words c (frame_at c y at) m) in
       ap (compared_of t) front
-      ∙ compared_frame t (frame_at c y at) Fits h.accepted fit
+      ∙ compared_frame t (frame_at c y at) (Ok tt) h.accepted fit
       ∙ number_passes _ (eqb-true _ _ (found_first c y from h.found).agrees)
 
   -- whoever hands out a first frame's words hands out these

@@ -4,9 +4,7 @@ use mathlib.Core.List.{List}
 use Prim.Native.Nat.{ℕ}
 use denote.Ref.{Bor}
 use Rattle.maker.specs.declared.make.Made.{Made}
-use Rattle.table.specs.declared.check.Checked.{Checked}
 use Rattle.framing.specs.declared.read.Reading.{Reading}
-use Rattle.framing.specs.declared.place.Placed.{Placed}
 use Rattle.framing.specs.declared.compare.Compared.{Compared}
 use Rattle.framing.specs.declared.page.Request.{Request}
 use Rattle.framing.specs.declared.page.Outcome.{Outcome}
@@ -19,6 +17,9 @@ use Rattle.ffi.specs.declared.sheets.OrbMade.{OrbMade}
 use Rattle.ffi.specs.declared.tables.OrbName.{OrbName}
 use Rattle.ffi.specs.declared.frames.OrbCompared.{OrbCompared}
 use Rattle.ffi.specs.declared.cards.OrbCarded.{OrbCarded}
+use Rattle.std.specs.Prelude.{Result, Ok, Err}
+use Rattle.framing.specs.Placing.{Placed}
+use Rattle.table.specs.Answers.{Checked}
 
 both : {A : Type 0} {x y z : A} → x ≡ z → y ≡ z → x ≡ y
 both p q = p ∙ sym q

@@ -10,10 +10,10 @@ use Rattle.model.specs.View.{view}
 use Rattle.grammar.specs.Says.{Says}
 use Rattle.grammar.proofs.Exactly.{one_saying}
 use Rattle.maker.specs.declared.make.Made.TheVariants as made
-use Rattle.table.specs.declared.check.Checked.TheVariants.{Table}
 use Rattle.framing.specs.declared.read.Reading.{Reading}
 use Rattle.demands.specs.Calls.{Calls}
 use Rattle.demands.specs.Demands.{HasSample, answer_in, Demands}
+use Rattle.std.specs.Prelude.{Result, Ok, Err}
 
 -- what a read of sample s of parameter p must answer, by what the sheet says
 abbrev pub read_by : Content → List ℕ → ℕ → ℕ → Reading
@@ -22,7 +22,7 @@ read_by c f p s = answer_in c f p s
 -- by a table made of a sheet that says c
 pub record ReadAsSaid (B : Calls) (s l : List ℕ) (n : ℕ) (c : Content) : Type 0 where
   -- the table passes the check
-  pub passes : B.check (take n (B.made s l)) ≡ Table
+  pub passes : B.check (take n (B.made s l)) ≡ Ok tt
   -- and every read by it of a frame that fits is the joining, lowest first and signed as said, of what the sheet lists
   pub reads : (f : List ℕ) (p q : ℕ) → meets c f ≡ true → HasSample c p q → B.read (take n (B.made s l)) f p q ≡ read_by c f p q
 

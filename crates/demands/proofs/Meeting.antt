@@ -32,7 +32,6 @@ use Rattle.maker.specs.Made.{made_of, left_of}
 use Rattle.maker.specs.declared.make.Made.TheVariants as made
 use Rattle.maker.proofs.MadeTables.{TooSmall as SmallTable, made_table, left_alone}
 use Rattle.table.specs.Answers.{check_of, check_number, asked_number, asked_mnemonic}
-use Rattle.table.specs.declared.check.Checked.TheVariants as checked
 use Rattle.framing.specs.Wanted.{wanted_of}
 use Rattle.framing.specs.Reading.{raw_of, width_is, value_of, copies_agree, sample_read, read_of, read_number}
 use Rattle.framing.specs.Placing.{laps_in, place_for, place_of, placed_for, placed_of, place_number}
@@ -41,9 +40,6 @@ use Rattle.framing.specs.Outcomes.{outcome_of}
 use Rattle.framing.specs.declared.page.Request.{Request}
 use Rattle.framing.specs.declared.page.Outcome.{Outcome}
 use Rattle.framing.specs.declared.page.Paged.{Paged}
-use Rattle.framing.specs.declared.want.Wanted.{Wanted}
-use Rattle.framing.specs.declared.want.Wanted.TheVariants as wanted
-use Rattle.framing.specs.declared.place.Placed.TheVariants as placing
 use Rattle.table.specs.declared.reason.Reason.TheVariants.{Overlapped}
 use Rattle.framing.proofs.Agree.{Lists, answers_bits, bits_answers}
 use Rattle.framing.proofs.Answered.{answered, raw_below}
@@ -59,18 +55,20 @@ use Rattle.demands.proofs.Numbers.{check_number_lem, read_number_lem, place_numb
 use Rattle.demands.proofs.Cards.{card_number, bits_known, bits_unknown, card_unchanged, findable, frame_handed, front_meets, front_passes, found_findable}
 use Rattle.demands.proofs.Pages.{page_number, page_passing, uncounted, unwritten}
 use Rattle.demands.proofs.Parts.{unnamed_part, name_asked, mnemonic_asked, named_part, first_differing}
+use Rattle.std.specs.Prelude.{Result, Ok, Err}
+use Rattle.framing.specs.Wanted.{Wanted}
 
 -- ---- what a check that passes says
 
-pub accepts_of : (t : List ℕ) → check_of t ≡ checked.Table → accepts t ≡ true
+pub accepts_of : (t : List ℕ) → check_of t ≡ Ok tt → accepts t ≡ true
 unfolding check_of
 accepts_of t e = go (accepts t) e
   where
-    go : (b : Bool) → cond b checked.Table checked.NotTable ≡ checked.Table → b ≡ true
+    go : (b : Bool) → cond b (Ok tt) (Err NoTable) ≡ Ok tt → b ≡ true
     go true q = refl
     go false q = let z : ◌≡◌ {A = ℕ} 0 1 = cc in absurd (omega arith)
 
-pub check_of_lem : (t : List ℕ) → accepts t ≡ true → check_of t ≡ checked.Table
+pub check_of_lem : (t : List ℕ) → accepts t ≡ true → check_of t ≡ Ok tt
 unfolding check_of
 check_of_lem t e = rw e
 
@@ -101,17 +99,17 @@ placing_unchanged : (t f : List ℕ) (p s v : ℕ) → (place_number (place_of t
 unfolding place_for place_of placed_for placed_of place_number
 placing_unchanged t f p s v n = laps (accepts t && laps_in (view t) p s) (go (wanted_of t f p s)) n
   where
-    laps : (b : Bool) → ((place_number (place_for (view t) (wanted_of t f p s) v) ≡ 0 → ⊥) → placed_for (view t) f (wanted_of t f p s) v ≡ f) → (place_number (cond b (placing.Refused Overlapped) (place_for (view t) (wanted_of t f p s) v)) ≡ 0 → ⊥) → cond b f (placed_for (view t) f (wanted_of t f p s) v) ≡ f
+    laps : (b : Bool) → ((place_number (place_for (view t) (wanted_of t f p s) v) ≡ 0 → ⊥) → placed_for (view t) f (wanted_of t f p s) v ≡ f) → (place_number (cond b (Err Overlapped) (place_for (view t) (wanted_of t f p s) v)) ≡ 0 → ⊥) → cond b f (placed_for (view t) f (wanted_of t f p s) v) ≡ f
     laps true rest m = refl
     laps false rest m = rest m
 
-    fit : (i j : ℕ) (b : Bool) → ltb v (2 ^ width_is (view t) i j) ≡ b → (place_number (place_for (view t) (wanted.Listed i j) v) ≡ 0 → ⊥) → placed_for (view t) f (wanted.Listed i j) v ≡ f
+    fit : (i j : ℕ) (b : Bool) → ltb v (2 ^ width_is (view t) i j) ≡ b → (place_number (place_for (view t) (Ok (i, j)) v) ≡ 0 → ⊥) → placed_for (view t) f (Ok (i, j)) v ≡ f
     fit i j true e m = absurd (m (rw e))
     fit i j false e m = rw e
 
     go : (w : Wanted) → (place_number (place_for (view t) w v) ≡ 0 → ⊥) → placed_for (view t) f w v ≡ f
-    go (wanted.Listed i j) m = fit i j (ltb v (2 ^ width_is (view t) i j)) refl m
-    go (wanted.Refused r) m = refl
+    go (Ok (i, j)) m = fit i j (ltb v (2 ^ width_is (view t) i j)) refl m
+    go (Err r) m = refl
 
 module _ (B : Calls) (K : Kept B) where
   -- ---- sheets
@@ -172,7 +170,7 @@ module _ (B : Calls) (K : Kept B) where
 
   -- ---- samples
 
-  module _ (t : List ℕ) (h : B.check t ≡ checked.Table) (p s : ℕ) (l : HasSample (view t) p s) where
+  module _ (t : List ℕ) (h : B.check t ≡ Ok tt) (p s : ℕ) (l : HasSample (view t) p s) where
     passed : accepts t ≡ true
     passed = accepts_of t (sym (K.checks t) ∙ h)
 
@@ -187,7 +185,7 @@ module _ (B : Calls) (K : Kept B) where
     below_width f = raw_below (view t) f (p - 1) (s - 1)
 
     module _ (z : overlapped (sample_of (view t) p s) ≡ false) (f : List ℕ) (m : meets (view t) f ≡ true) (v : ℕ) (d : v < 2 ^ width (components_of (view t) p s)) where
-      value_done : B.place t f p s v ≡ placing.Done
+      value_done : B.place t f p s v ≡ Ok tt
       unfolding width_is width_of components_of
       value_done =
           let k = lists_of t p s l in

@@ -18,22 +18,18 @@ use Rattle.model.specs.Frame.{words_ok}
 use Rattle.model.specs.Samples.{width_of, overlapped}
 use Rattle.model.specs.View.{view}
 use Rattle.table.specs.Answers.{check_of, check_number, numbered_of, mnemonic_is, called, asked_number, asked_mnemonic, asked_refusal}
-use Rattle.table.specs.declared.check.Checked.TheVariants as checked
-use Rattle.table.specs.declared.naming.Asked.TheVariants as asked
 use Rattle.framing.specs.Fitting.{fit_of}
 use Rattle.framing.specs.Wanted.{has_parameter, has_sample, fitted, wanted_by, wanted_of}
 use Rattle.framing.specs.Reading.{raw_of, width_is, value_of, copies_agree, read_for, read_of, read_number, sample_read}
 use Rattle.framing.specs.declared.read.Reading.TheVariants.{Sample, OverlapDiffers}
 use Rattle.framing.specs.Placing.{laps_in, place_for, place_of, place_number}
-use Rattle.framing.specs.declared.place.Placed.TheVariants as placing
 use Rattle.framing.specs.Comparing.{differs_in, compared_in, fitted_compared, compared_of, compared_number}
-use Rattle.framing.specs.declared.fit.Fit.TheVariants.{Fits, Refused}
 use Rattle.table.specs.Reasons.{reason_number}
 use Rattle.table.specs.declared.reason.Reason.TheVariants.{Overlapped, NoTable, OtherCount, HighWord, NoParameter, NoSample}
-use Rattle.framing.specs.declared.want.Wanted.{Wanted}
-use Rattle.framing.specs.declared.want.Wanted.TheVariants as wanted
 use Rattle.framing.specs.declared.compare.Compared.TheVariants as compared
 use Rattle.demands.specs.Refusing.{sample_of, components_of, as_many_words, first_broken, check_rules, read_rules, place_rules, compare_rules, name_rules, mnemonic_rules}
+use Rattle.std.specs.Prelude.{Result, Ok, Err}
+use Rattle.framing.specs.Wanted.{Wanted}
 
 -- the first number below n of which p holds is below n exactly where there is one
 pub found_any : (n : ℕ) (p : ℕ → Bool) → ltb (find n p) n ≡ any n p
@@ -49,19 +45,19 @@ pub check_number_lem : (t : List ℕ) → check_number (check_of t) ≡ first_br
 unfolding check_number reason_number check_of first_broken
 check_number_lem t = go (accepts t)
   where
-    go : (a : Bool) → check_number (cond a checked.Table checked.NotTable) ≡ cond a 0 18
+    go : (a : Bool) → check_number (cond a (Ok tt) (Err NoTable)) ≡ cond a 0 18
     go true = refl
     go false = refl
 
 -- ---- reading and placing
 
 abbrev wanted_number : Wanted → ℕ
-wanted_number (wanted.Listed i j) = 0
-wanted_number (wanted.Refused r) = reason_number r
+wanted_number (Ok (i, j)) = 0
+wanted_number (Err r) = reason_number r
 
 -- the wanted sample by five tests, in 01's order
 abbrev by_tests : Bool → Bool → Bool → Bool → Bool → ℕ → ℕ → Wanted
-by_tests a b d e g i j = cond a (cond b (cond d (fitted (cond e (cond g Fits (Refused HighWord)) (Refused OtherCount)) i j) (wanted.Refused NoSample)) (wanted.Refused NoParameter)) (wanted.Refused NoTable)
+by_tests a b d e g i j = cond a (cond b (cond d (fitted (cond e (cond g (Ok tt) (Err HighWord)) (Err OtherCount)) i j) (Err NoSample)) (Err NoParameter)) (Err NoTable)
 
 -- where all five hold it is listed, else it has the first one's number
 number_by : (a b d e g : Bool) (i j : ℕ) → wanted_number (by_tests a b d e g i j) ≡ cond a (cond b (cond d (cond e (cond g 0 20) 19) 22) 21) 18
@@ -86,19 +82,19 @@ read_number_lem t f p s = go (wanted_of t f p s) ∙ wanted_number_lem t f p s
     either x w v false = refl
 
     go : (w : Wanted) → read_number (read_for (view t) f w) ≡ wanted_number w
-    go (wanted.Listed i j) = either (raw_of (view t) f i j) (width_is (view t) i j) (value_of (view t) f i j) (copies_agree (view t) f i j)
-    go (wanted.Refused r) = refl
+    go (Ok (i, j)) = either (raw_of (view t) f i j) (width_is (view t) i j) (value_of (view t) f i j) (copies_agree (view t) f i j)
+    go (Err r) = refl
 
 pub place_number_lem : (t f : List ℕ) (p s v : ℕ) → place_number (place_of t f p s v) ≡ first_broken (place_rules t f p s v)
 unfolding place_of laps_in place_for place_number reason_number wanted_of wanted_by fitted fit_of width_is width_of components_of first_broken
 place_number_lem t f p s v =
     go (accepts t) (has_parameter (view t) p) (has_sample (view t) p s) (overlapped (sample_of (view t) p s)) (as_many_words (view t) f) (words_ok (view t) f)
   where
-    last : (b : Bool) → ltb v (2 ^ width_is (view t) (p - 1) (s - 1)) ≡ b → place_number (place_for (view t) (wanted.Listed (p - 1) (s - 1)) v) ≡ cond b 0 23
+    last : (b : Bool) → ltb v (2 ^ width_is (view t) (p - 1) (s - 1)) ≡ b → place_number (place_for (view t) (Ok (p - 1, s - 1)) v) ≡ cond b 0 23
     last true e = rw e
     last false e = rw e
 
-    go : (a b d o e g : Bool) → place_number (cond (a && (b && (d && o))) (placing.Refused Overlapped) (place_for (view t) (by_tests a b d e g (p - 1) (s - 1)) v)) ≡ cond a (cond b (cond d (cond (not o) (cond e (cond g (cond (ltb v (2 ^ width_is (view t) (p - 1) (s - 1))) 0 23) 20) 19) 10) 22) 21) 18
+    go : (a b d o e g : Bool) → place_number (cond (a && (b && (d && o))) (Err Overlapped) (place_for (view t) (by_tests a b d e g (p - 1) (s - 1)) v)) ≡ cond a (cond b (cond d (cond (not o) (cond e (cond g (cond (ltb v (2 ^ width_is (view t) (p - 1) (s - 1))) 0 23) 20) 19) 10) 22) 21) 18
     go false b d o e g = refl
     go true false d o e g = refl
     go true true false o e g = refl
@@ -118,7 +114,7 @@ compare_number t f =
     at : ℕ
     at = find (subframes (view t)) (λ s. differs_in (view t) f (s + 1))
 
-    go : (a e g d : Bool) → compared_number (cond a (fitted_compared (cond e (cond g Fits (Refused HighWord)) (Refused OtherCount)) (cond d (compared.Differs (at + 1)) compared.Passes)) (compared.Refused NoTable)) ≡ cond a (cond e (cond g (cond (not d) 0 24) 20) 19) 18
+    go : (a e g d : Bool) → compared_number (cond a (fitted_compared (cond e (cond g (Ok tt) (Err HighWord)) (Err OtherCount)) (cond d (compared.Differs (at + 1)) compared.Passes)) (compared.Refused NoTable)) ≡ cond a (cond e (cond g (cond (not d) 0 24) 20) 19) 18
     go false e g d = refl
     go true false g d = refl
     go true true false d = refl
@@ -131,7 +127,7 @@ pub name_number_lem : (t : List ℕ) (p : ℕ) → asked_refusal (asked_number t
 unfolding asked_refusal reason_number asked_number numbered_of first_broken
 name_number_lem t p = go (accepts t) (has_parameter (view t) p)
   where
-    go : (a b : Bool) → asked_refusal (cond a (cond b (asked.Parameter (p - 1)) (asked.Refused NoParameter)) (asked.Refused NoTable)) ≡ cond a (cond b 0 21) 18
+    go : (a b : Bool) → asked_refusal (cond a (cond b (Ok (p - 1)) (Err NoParameter)) (Err NoTable)) ≡ cond a (cond b 0 21) 18
     go false b = refl
     go true false = refl
     go true true = refl
@@ -145,7 +141,7 @@ mnemonic_number t m =
     at : ℕ
     at = find (parameters (view t)) (λ i. same (parameter (view t) i).mnemonic m)
 
-    go : (a b : Bool) → asked_refusal (cond a (cond b (asked.Parameter at) (asked.Refused NoParameter)) (asked.Refused NoTable)) ≡ cond a (cond b 0 21) 18
+    go : (a b : Bool) → asked_refusal (cond a (cond b (Ok at) (Err NoParameter)) (Err NoTable)) ≡ cond a (cond b 0 21) 18
     go false b = refl
     go true false = refl
     go true true = refl

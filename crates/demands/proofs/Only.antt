@@ -33,8 +33,6 @@ use Rattle.maker.specs.Made.{made_of, left_of}
 use Rattle.maker.specs.declared.make.Made.TheVariants as made
 use Rattle.bench.specs.Promises.{Makes, Pages, Names, NamesBy, Cards, FrameBits}
 use Rattle.table.specs.Answers.{NameOf, check_of, asked_number, asked_mnemonic, asked_refusal, name_answered, place_answered}
-use Rattle.table.specs.declared.naming.Asked.{Asked}
-use Rattle.table.specs.declared.naming.Asked.TheVariants as asked
 use Rattle.framing.specs.Reading.{read_of, read_number}
 use Rattle.framing.specs.Outcomes.{outcome_of}
 use Rattle.framing.specs.Paging.{paged_of, results_of}
@@ -53,6 +51,8 @@ use Rattle.demands.proofs.Cards.{card_number, findable, handed_alike, same_carde
 use Rattle.demands.proofs.Unbroken.{Readable, readable, long, placeable}
 use Rattle.demands.proofs.Meeting.{accepts_of, check_of_lem}
 use Rattle.demands.proofs.Ours.{ours, ours_meets}
+use Rattle.std.specs.Prelude.{Result, Ok, Err}
+use Rattle.table.specs.Answers.{Asked}
 
 -- frames of one length that join alike, and agree at every bit that no component names, are one
 one_frame : (g h : List ℕ) (cs : List Component) → length g ≡ length h → join g cs ≡ join h cs
@@ -74,14 +74,14 @@ some : (n : ℕ) → (0 < n → ⊥) → n ≡ 0
 some n h = omega arith
 
 -- the name that is asked for, or the empty part, as the promise has it
-part_named : (t r : Bor (List ℕ)) (i : ℕ) → NamePart t r i → NameOf t r (asked.Parameter i)
+part_named : (t r : Bor (List ℕ)) (i : ℕ) → NamePart t r i → NameOf t r (Ok i)
 unfolding name_answered place_answered
 part_named t r i h = record { bytes = h.bytes_are; own = h.own }
 
 part_empty : (t r : Bor (List ℕ)) (a : Asked) → 0 < asked_refusal a → EmptyPart t r → NameOf t r a
 unfolding name_answered place_answered asked_refusal
-part_empty t r (asked.Parameter i) n h = absurd (omega arith)
-part_empty t r (asked.Refused q) n h = record { bytes = h.bytes_are; own = h.own }
+part_empty t r (Ok i) n h = absurd (omega arith)
+part_empty t r (Err q) n h = record { bytes = h.bytes_are; own = h.own }
 
 module _ (B : Calls) (D : Demands B) where
   checks : (t : List ℕ) → B.check t ≡ check_of t

@@ -7,7 +7,6 @@ use lib.ListN.{length}
 use Rattle.gather.specs.Ruling.{judge_of}
 use Rattle.maker.specs.Made.{made_of, left_of}
 use Rattle.table.specs.Answers.{check_of, asked_number, asked_mnemonic, asked_refusal, name_answered, place_answered}
-use Rattle.table.specs.declared.naming.Asked.{Asked}
 use Rattle.framing.specs.Reading.{read_of}
 use Rattle.framing.specs.Placing.{place_of, placed_of}
 use Rattle.framing.specs.Comparing.{compared_of}
@@ -16,6 +15,8 @@ use Rattle.carding.specs.Answer.{carded_of, handed_of, bits_of_frame}
 use Rattle.demands.specs.Calls.{Calls, Kept}
 use Rattle.demands.specs.Demands.{Demands}
 use Rattle.demands.proofs.Meeting.{demands_met}
+use Rattle.std.specs.Prelude.{Result, Ok, Err}
+use Rattle.table.specs.Answers.{Asked}
 
 -- the table's own bytes from where the name stands
 abbrev answered_part : Bor (List ℕ) → Asked → Bor (List ℕ)

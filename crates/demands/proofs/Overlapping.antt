@@ -29,14 +29,13 @@ use Rattle.model.specs.View.{view}
 use Rattle.model.specs.Wall.{wall, sync}
 use Rattle.model.specs.Write.{write}
 use Rattle.model.proofs.Statements.{view_new, new_accepted}
-use Rattle.table.specs.declared.check.Checked.TheVariants.{Table}
 use Rattle.framing.specs.Placing.{place_number}
 use Rattle.framing.specs.declared.read.Reading.TheVariants.{Sample, OverlapDiffers}
-use Rattle.framing.specs.declared.place.Placed.TheVariants.{Done}
 use Rattle.demands.specs.Calls.{Calls}
 use Rattle.demands.specs.Refusing.{sample_of, components_of, wholes_of, first_broken, place_rules}
 use Rattle.demands.specs.Demands.{HasSample, meaning, answer_in, Fitting, Demands}
 use Rattle.demands.proofs.Told.{raw_in, same_checked}
+use Rattle.std.specs.Prelude.{Result, Ok, Err}
 
 -- ---- the Content, its table, and two frames
 
@@ -143,7 +142,7 @@ module _ (B : Calls) (D : Demands B) where
   says_lapped : view lapped_table ≡ lapped_wall
   says_lapped = view_new lapped_wall lapped_lawful
 
-  passes : B.check lapped_table ≡ Table
+  passes : B.check lapped_table ≡ Ok tt
   unfolding first_broken
   passes = same_checked (B.check lapped_table) true (D.one.tables lapped_table ∙ rw (new_accepted lapped_wall lapped_lawful) refl)
 
@@ -193,7 +192,7 @@ module _ (B : Calls) (D : Demands B) where
       (u lapped_table rolled 2 1 (fitting rolled rolled_meets) there)
 
   -- one that places into an overlapped sample: of whatever table, frame and value, it is 10 as soon as the sample is listed
-  pub overlap_not_placed : ((t f : List ℕ) (p s v : ℕ) → Fitting B t f → HasSample (view t) p s → B.place t f p s v ≡ Done) → ⊥
+  pub overlap_not_placed : ((t f : List ℕ) (p s v : ℕ) → Fitting B t f → HasSample (view t) p s → B.place t f p s v ≡ Ok tt) → ⊥
   unfolding first_broken place_number
   overlap_not_placed u =
       let e = u lapped_table agreeing 2 1 0 (fitting agreeing agreeing_meets) there in

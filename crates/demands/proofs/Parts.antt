@@ -21,39 +21,38 @@ use Rattle.model.specs.Meaning.{Lawful}
 use Rattle.model.specs.View.{view}
 use Rattle.model.proofs.Meanings.{lawful_law}
 use Rattle.table.specs.Answers.{NameOf, numbered_of, mnemonic_is, called, asked_number, asked_mnemonic, asked_refusal, name_answered, place_answered}
-use Rattle.table.specs.declared.naming.Asked.{Asked}
-use Rattle.table.specs.declared.naming.Asked.TheVariants.{Parameter, Refused}
 use Rattle.table.specs.declared.reason.Reason.TheVariants.{NoTable, NoParameter}
 use Rattle.table.proofs.Reasoning.{reason_some}
 use Rattle.table.proofs.Accepting.{accepts_lawful}
 use Rattle.framing.specs.Comparing.{differs_in, compared_in, fitted_compared, compared_of}
 use Rattle.framing.specs.Fitting.{fit_of}
-use Rattle.framing.specs.declared.fit.Fit.{Fit}
-use Rattle.framing.specs.declared.fit.Fit.TheVariants as fit
 use Rattle.framing.specs.declared.compare.Compared.TheVariants as compared
 use Rattle.demands.specs.Refusing.{first_broken, name_rules, mnemonic_rules}
 use Rattle.demands.specs.Demands.{EmptyPart, NamePart, FirstDiffering}
 use Rattle.demands.proofs.Numbers.{name_number_lem, mnemonic_number}
+use Rattle.std.specs.Prelude.{Result, Ok, Err}
+use Rattle.framing.specs.Fitting.{Fit}
+use Rattle.table.specs.Answers.{Asked}
 
 -- ---- names
 
 pub unnamed_part : (t r : Bor (List ℕ)) (a : Asked) → NameOf t r a → (asked_refusal a ≡ 0 → ⊥) → EmptyPart t r
 unfolding name_answered place_answered asked_refusal
-unnamed_part t r (Parameter i) h n = absurd (n refl)
-unnamed_part t r (Refused q) h n = record { bytes_are = h.bytes; own = h.own }
+unnamed_part t r (Ok i) h n = absurd (n refl)
+unnamed_part t r (Err q) h n = record { bytes_are = h.bytes; own = h.own }
 
-pub named_part : (t r : Bor (List ℕ)) (a : Asked) (i : ℕ) → NameOf t r a → a ≡ Parameter i → NamePart t r i
+pub named_part : (t r : Bor (List ℕ)) (a : Asked) (i : ℕ) → NameOf t r a → a ≡ Ok i → NamePart t r i
 named_part t r a i h e = go (subst (NameOf t r) e h)
   where
-    go : NameOf t r (Parameter i) → NamePart t r i
+    go : NameOf t r (Ok i) → NamePart t r i
     go k = unfold name_answered place_answered in record { bytes_are = k.bytes; own = k.own }
 
 -- which parameter is asked for, where none of 01's rules is broken
-pub name_asked : (t : List ℕ) (p : ℕ) → first_broken (name_rules t p) ≡ 0 → asked_number t p ≡ Parameter (p - 1)
+pub name_asked : (t : List ℕ) (p : ℕ) → first_broken (name_rules t p) ≡ 0 → asked_number t p ≡ Ok (p - 1)
 unfolding asked_number numbered_of
 name_asked t p e = go (accepts t) (leb 1 p && leb p (parameters (view t))) (name_number_lem t p ∙ e)
   where
-    go : (a b : Bool) → asked_refusal (cond a (cond b (Parameter (p - 1)) (Refused NoParameter)) (Refused NoTable)) ≡ 0 → cond a (cond b (Parameter (p - 1)) (Refused NoParameter)) (Refused NoTable) ≡ Parameter (p - 1)
+    go : (a b : Bool) → asked_refusal (cond a (cond b (Ok (p - 1)) (Err NoParameter)) (Err NoTable)) ≡ 0 → cond a (cond b (Ok (p - 1)) (Err NoParameter)) (Err NoTable) ≡ Ok (p - 1)
     go true true q = refl
     go true false q = absurd (reason_some NoParameter (unfold asked_refusal in q))
     go false b q = absurd (reason_some NoTable (unfold asked_refusal in q))
@@ -70,7 +69,7 @@ module _ (t m : List ℕ) where
   asked_found e = go (accepts t) refl (leb 1 (length m) && ltb (mnemonic_is (view t) m) (parameters (view t))) refl e
     where
       go : (a : Bool) → accepts t ≡ a → (b : Bool) → (leb 1 (length m) && ltb (mnemonic_is (view t) m) (parameters (view t))) ≡ b
-          → asked_refusal (cond a (cond b (Parameter (mnemonic_is (view t) m)) (Refused NoParameter)) (Refused NoTable)) ≡ 0 → Found
+          → asked_refusal (cond a (cond b (Ok (mnemonic_is (view t) m)) (Err NoParameter)) (Err NoTable)) ≡ 0 → Found
       go true h true k q =
           record {
             accepted = h;
@@ -80,7 +79,7 @@ module _ (t m : List ℕ) where
       go true h false k q = absurd (reason_some NoParameter q)
       go false h b k q = absurd (reason_some NoTable q)
 
-  asked_at : Found → asked_mnemonic t m ≡ Parameter (mnemonic_is (view t) m)
+  asked_at : Found → asked_mnemonic t m ≡ Ok (mnemonic_is (view t) m)
   asked_at x = unfold asked_mnemonic called in rw (x.accepted, le-leb 1 (length m) x.some, lt-ltb _ _ x.here)
 
   -- a parameter that has it
@@ -88,7 +87,7 @@ module _ (t m : List ℕ) where
     pub at : ℕ
     pub here : at < parameters (view t)
     pub has : (parameter (view t) at).mnemonic ≡ m
-    pub asked : asked_mnemonic t m ≡ Parameter at
+    pub asked : asked_mnemonic t m ≡ Ok at
 
   pub mnemonic_found : first_broken (mnemonic_rules t m) ≡ 0 → Has
   unfolding mnemonic_is
@@ -122,8 +121,8 @@ module _ (t m : List ℕ) where
       go (yes k) = absurd ((law.apart i at l k).mnemonic (rw e x.some) (has ∙ sym e))
       go (no k) = omega (arith, least)
 
-  pub mnemonic_asked : first_broken (mnemonic_rules t m) ≡ 0 → (i : ℕ) → i < parameters (view t) → (parameter (view t) i).mnemonic ≡ m → asked_mnemonic t m ≡ Parameter i
-  mnemonic_asked e i l q = let x = asked_found (mnemonic_number t m ∙ e) in asked_at x ∙ ap Parameter (only_one x i l q)
+  pub mnemonic_asked : first_broken (mnemonic_rules t m) ≡ 0 → (i : ℕ) → i < parameters (view t) → (parameter (view t) i).mnemonic ≡ m → asked_mnemonic t m ≡ Ok i
+  mnemonic_asked e i l q = let x = asked_found (mnemonic_number t m ∙ e) in asked_at x ∙ ap Ok (only_one x i l q)
 
 -- ---- the first subframe that differs
 
@@ -159,7 +158,7 @@ first_differing t f s e = go (accepts t) (fit_of (view t) f) (ltb (at (view t) f
   where
     go : (a : Bool) (d : Fit) (b : Bool) → ltb (at (view t) f) (subframes (view t)) ≡ b
         → cond a (fitted_compared d (cond b (compared.Differs (at (view t) f + 1)) compared.Passes)) (compared.Refused NoTable) ≡ compared.Differs s → FirstDiffering (view t) f s
-    go true fit.Fits true h q = rw (sym (subframe_same (at (view t) f + 1) s q)) (found_first (view t) f (ltb-true _ _ h))
-    go true fit.Fits false h q = let z : ◌≡◌ {A = ℕ} 0 1 = cc in absurd (omega arith)
-    go true (fit.Refused r) b h q = let z : ◌≡◌ {A = ℕ} 0 1 = cc in absurd (omega arith)
+    go true (Ok _) true h q = rw (sym (subframe_same (at (view t) f + 1) s q)) (found_first (view t) f (ltb-true _ _ h))
+    go true (Ok _) false h q = let z : ◌≡◌ {A = ℕ} 0 1 = cc in absurd (omega arith)
+    go true (Err r) b h q = let z : ◌≡◌ {A = ℕ} 0 1 = cc in absurd (omega arith)
     go false d b h q = let z : ◌≡◌ {A = ℕ} 0 1 = cc in absurd (omega arith)

@@ -21,7 +21,6 @@ use Rattle.model.specs.Samples.{word_counts, piece, pieces}
 use Rattle.model.specs.View.{view}
 use Rattle.model.specs.Wall.{wall}
 use Rattle.table.specs.Answers.{check_number}
-use Rattle.table.specs.declared.check.Checked.TheVariants.{Table}
 use Rattle.framing.specs.declared.read.Reading.{Reading}
 use Rattle.demands.specs.Calls.{Calls}
 use Rattle.demands.specs.Refusing.{components_of}
@@ -29,6 +28,7 @@ use Rattle.demands.specs.Demands.{HasSample, Fitting, Demands}
 use Rattle.demands.proofs.Wall.{words, fuller, words_meet, fuller_meets, sync_listed, pitch_listed, wall_table, says_wall, fitting, there, plain, reads_pitch, reads_sync, pitch_room}
 use Rattle.demands.proofs.Told.{raw_in, value_in}
 use Rattle.demands.proofs.Useless.{eighteen}
+use Rattle.std.specs.Prelude.{Result, Ok, Err}
 
 -- what a bench reads, of every sample of every frame that fits a table it accepts
 abbrev Reads : Calls → (Content → List ℕ → ℕ → ℕ → Reading → Type 0) → Type 0
@@ -111,6 +111,6 @@ module _ (B : Calls) (D : Demands B) where
       omega (arith, fifth_set, o, u (wall_table B) fuller 2 1 63 h l (pitch_room B D) fifth beside unnamed)
 
   -- "A table trusted since "our compiler made it"."
-  pub not_all_trusted : ((t : List ℕ) → B.check t ≡ Table) → ⊥
+  pub not_all_trusted : ((t : List ℕ) → B.check t ≡ Ok tt) → ⊥
   unfolding check_number
   not_all_trusted u = let e : check_number (B.check []) ≡ 18 = D.one.tables [] ∙ eighteen _ in omega (arith, ap check_number (u []))

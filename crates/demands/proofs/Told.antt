@@ -9,8 +9,6 @@ use lib.IntN.{ℤ, pos}
 use Rattle.sample.specs.Joining.{join}
 use Rattle.model.specs.Content.{Content}
 use Rattle.table.specs.Answers.{check_number}
-use Rattle.table.specs.declared.check.Checked.{Checked}
-use Rattle.table.specs.declared.check.Checked.TheVariants as checked
 use Rattle.table.specs.Reasons.{reason_number}
 use Rattle.table.proofs.Reasoning.{reason_some, reason_not_differing, one_reason}
 use Rattle.framing.specs.Reading.{read_number}
@@ -18,12 +16,13 @@ use Rattle.framing.specs.Placing.{place_number}
 use Rattle.framing.specs.Comparing.{compared_number}
 use Rattle.framing.specs.declared.read.Reading.{Reading}
 use Rattle.framing.specs.declared.read.Reading.TheVariants as reading
-use Rattle.framing.specs.declared.place.Placed.{Placed}
-use Rattle.framing.specs.declared.place.Placed.TheVariants as placing
 use Rattle.framing.specs.declared.compare.Compared.{Compared}
 use Rattle.framing.specs.declared.compare.Compared.TheVariants as compared
 use Rattle.demands.specs.Refusing.{components_of}
 use Rattle.demands.specs.Demands.{answer_for, differs_for, agree_in, answer_in, FirstDiffering}
+use Rattle.std.specs.Prelude.{Result, Ok, Err}
+use Rattle.framing.specs.Placing.{Placed}
+use Rattle.table.specs.Answers.{Checked}
 
 -- the raw value and the value that are answered, whether the copies agree or not
 abbrev pub raw_in : Reading → ℕ
@@ -54,16 +53,16 @@ same_reading (reading.Refused q) (reading.Refused r) e h = ap reading.Refused (o
 
 pub same_placing : (x y : Placed) → place_number x ≡ place_number y → 0 < place_number y → x ≡ y
 unfolding place_number
-same_placing placing.Done y e h = absurd (omega arith)
-same_placing (placing.Refused q) placing.Done e h = absurd (omega arith)
-same_placing (placing.Refused q) (placing.Refused r) e h = ap placing.Refused (one_reason q r e)
+same_placing (Ok _) y e h = absurd (omega arith)
+same_placing (Err q) (Ok _) e h = absurd (omega arith)
+same_placing (Err q) (Err r) e h = ap Err (one_reason q r e)
 
-pub same_checked : (x : Checked) (a : Bool) → check_number x ≡ cond a 0 18 → x ≡ cond a checked.Table checked.NotTable
+pub same_checked : (x : Checked) (a : Bool) → check_number x ≡ cond a 0 18 → x ≡ cond a (Ok tt) (Err NoTable)
 unfolding check_number reason_number
-same_checked checked.Table true e = refl
-same_checked checked.Table false e = absurd (omega arith)
-same_checked checked.NotTable true e = absurd (omega arith)
-same_checked checked.NotTable false e = refl
+same_checked (Ok _) true e = refl
+same_checked (Ok _) false e = absurd (omega arith)
+same_checked (Err _) true e = absurd (omega arith)
+same_checked (Err _) false e = refl
 
 -- ---- there is one first differing subframe
 

@@ -30,13 +30,12 @@ use Rattle.framing.specs.Placing.{place_for, placed_for}
 use Rattle.framing.specs.Comparing.{differs_at, differs_in, compared_in}
 use Rattle.framing.specs.declared.read.Reading.{Reading}
 use Rattle.framing.specs.declared.read.Reading.TheVariants as reading
-use Rattle.framing.specs.declared.want.Wanted.{Wanted}
-use Rattle.framing.specs.declared.want.Wanted.TheVariants as wanted
-use Rattle.framing.specs.declared.place.Placed.{Placed}
-use Rattle.framing.specs.declared.place.Placed.TheVariants as placing
 use Rattle.framing.specs.declared.compare.Compared.{Compared}
 use Rattle.framing.specs.declared.compare.Compared.TheVariants as compared
 use Rattle.table.specs.declared.reason.Reason.TheVariants.{TooLarge}
+use Rattle.std.specs.Prelude.{Result, Ok, Err}
+use Rattle.framing.specs.Placing.{Placed}
+use Rattle.framing.specs.Wanted.{Wanted}
 
 -- ---- the base's definitions
 
@@ -50,17 +49,17 @@ abbrev pub base_width : Content → ℕ → ℕ → ℕ
 base_width c i j = width (base_components c i j)
 
 abbrev pub base_read : Content → List ℕ → Wanted → Reading
-base_read c f (wanted.Listed i j) =
+base_read c f (Ok (i, j)) =
     reading.Sample (base_raw c f i j) (base_width c i j) (cond (parameter c i).signed (signed (base_width c i j) (base_raw c f i j)) (pos (base_raw c f i j)))
-base_read c f (wanted.Refused r) = reading.Refused r
+base_read c f (Err r) = reading.Refused r
 
 abbrev pub base_place : Content → Wanted → ℕ → Placed
-base_place c (wanted.Listed i j) v = cond (ltb v (2 ^ base_width c i j)) placing.Done (placing.Refused TooLarge)
-base_place c (wanted.Refused r) v = placing.Refused r
+base_place c (Ok (i, j)) v = cond (ltb v (2 ^ base_width c i j)) (Ok tt) (Err TooLarge)
+base_place c (Err r) v = Err r
 
 abbrev pub base_placed : Content → List ℕ → Wanted → ℕ → List ℕ
-base_placed c f (wanted.Listed i j) v = cond (ltb v (2 ^ base_width c i j)) (place f (base_components c i j) v) f
-base_placed c f (wanted.Refused r) v = f
+base_placed c f (Ok (i, j)) v = cond (ltb v (2 ^ base_width c i j)) (place f (base_components c i j) v) f
+base_placed c f (Err r) v = f
 
 abbrev pub base_differs_at : Content → List ℕ → ℕ → ℕ → Bool
 base_differs_at c f s i = (parameter c i).identifier && (eqb (lies (parameter c i)) s && not (eqb (base_raw c f i 0) (parameter c i).value))
@@ -89,18 +88,18 @@ module _ (c : Content) (i j : ℕ) (z : overlapped (sample (parameter c i) j) �
   same_width = ap width same_components
 
   -- read
-  pub plain_read : (f : List ℕ) → sample_read c f i j ≡ base_read c f (wanted.Listed i j)
+  pub plain_read : (f : List ℕ) → sample_read c f i j ≡ base_read c f (Ok (i, j))
   unfolding sample_read value_of copies_agree raw_of
   plain_read f =
       rw (plain_holds c.subframes (sample (parameter c i) j) f (not_overlapped_lem (sample (parameter c i) j) z))
       (λ e. reading.Sample (same_raw f e) (same_width e) (cond (parameter c i).signed (signed (same_width e) (same_raw f e)) (pos (same_raw f e))))
 
   -- placed
-  pub plain_place : (v : ℕ) → place_for c (wanted.Listed i j) v ≡ base_place c (wanted.Listed i j) v
+  pub plain_place : (v : ℕ) → place_for c (Ok (i, j)) v ≡ base_place c (Ok (i, j)) v
   unfolding place_for
-  plain_place v = ap (λ (w : ℕ). cond (ltb v (2 ^ w)) placing.Done (placing.Refused TooLarge)) same_width
+  plain_place v = ap (λ (w : ℕ). cond (ltb v (2 ^ w)) (Ok tt) (Err TooLarge)) same_width
 
-  pub plain_placed : (f : List ℕ) (v : ℕ) → placed_for c f (wanted.Listed i j) v ≡ base_placed c f (wanted.Listed i j) v
+  pub plain_placed : (f : List ℕ) (v : ℕ) → placed_for c f (Ok (i, j)) v ≡ base_placed c f (Ok (i, j)) v
   unfolding placed_for
   plain_placed f v = ap₂ (λ (w : ℕ) (cs : List Piece). cond (ltb v (2 ^ w)) (place f cs v) f) same_width same_components
 

@@ -28,7 +28,6 @@ use Rattle.gather.specs.Ruling.{Refused, judge_of}
 use Rattle.gather.specs.WallSheet.{wall_sheet}
 use Rattle.grammar.specs.Says.{Says}
 use Rattle.maker.specs.declared.make.Made.TheVariants as made
-use Rattle.table.specs.declared.check.Checked.TheVariants.{NotTable}
 use Rattle.table.proofs.Accepting.{accepted_ruled}
 use Rattle.framing.specs.Reading.{read_number}
 use Rattle.framing.specs.Placing.{place_number}
@@ -40,6 +39,7 @@ use Rattle.demands.specs.Demands.{HasSample, answer_for, Fitting, FirstDiffering
 use Rattle.demands.proofs.Told.{raw_in, answer_raw, one_first}
 use Rattle.demands.proofs.Unbroken.{readable}
 use Rattle.demands.proofs.Wall.{words, others, lower, words_meet, others_meet, lower_meets, sync_listed, pitch_listed, wall_table, made_wall, all_read, says_wall, fitting, there, plain, reads_pitch, pitch_room}
+use Rattle.std.specs.Prelude.{Result, Ok, Err}
 
 -- ---- no bytes are no table: 18 stands first in every call
 
@@ -132,7 +132,7 @@ module _ (B : Calls) (D : Demands B) where
   some_sheet_taken u = u wall_sheet (write newest wall) (length (write newest wall)) (made_wall B D)
 
   -- refusing all tables
-  pub some_table_passes : ((t : List ℕ) → B.check t ≡ NotTable) → ⊥
+  pub some_table_passes : ((t : List ℕ) → B.check t ≡ (Err NoTable)) → ⊥
   some_table_passes u = let e = sym (u (wall_table B)) ∙ (all_read B D).passes in let z : ◌≡◌ {A = ℕ} 0 1 = cc in omega arith
 
   -- the same sample for every frame: by "exactly when"

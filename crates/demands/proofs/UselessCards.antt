@@ -33,7 +33,6 @@ use Rattle.model.specs.Write.{write}
 use Rattle.model.proofs.Rows.{not_first}
 use Rattle.model.proofs.Statements.{view_new, form_new, new_accepted}
 use Rattle.model.proofs.TwoSubframes.{two, two_lawful}
-use Rattle.table.specs.declared.check.Checked.TheVariants.{Table}
 use Rattle.framing.specs.Comparing.{differs_at, differs_in, compared_in, compared_number}
 use Rattle.stream.specs.Stream.{stream_bit, bits_from}
 use Rattle.carding.specs.Layout.{subframe_bits, bits_before, frame_bits, words_begin, word_begins, word_in, frame_at}
@@ -50,6 +49,7 @@ use Rattle.demands.specs.Demands.{Demands}
 use Rattle.demands.proofs.CardEnd.{CardAsSaid, card_as_said}
 use Rattle.demands.proofs.Told.{same_checked}
 use Rattle.demands.proofs.Wall.{words}
+use Rattle.std.specs.Prelude.{Result, Ok, Err}
 
 -- ---- the wall's words on a card, at its first bit and behind four zeros; no bits in the margins
 
@@ -179,7 +179,7 @@ record CardRead (B : Calls) (c : Content) (y w : List ℕ) : Type 0 where
   said : CardAsSaid B (write newest c) y 0 w at count c
 
 module _ (B : Calls) (D : Demands B) (c : Content) (h : lawful sheet_limits c ≡ true) (some : leb 1 (parameters c) ≡ true) (known : margins_known c ≡ true) where
-  checked : B.check (write newest c) ≡ Table
+  checked : B.check (write newest c) ≡ Ok tt
   unfolding first_broken
   checked = same_checked (B.check (write newest c)) (accepts (write newest c)) (D.one.tables (write newest c)) ∙ rw (new_accepted c h)
 
@@ -222,7 +222,7 @@ module _ (B : Calls) (D : Demands B) where
               differ shifted_differs (subst (λ (k : ℕ). agrees_at tight shifted k ≡ true) z f.agrees)
 
   -- only subframe 1's identifier compared: no 25 where it agrees
-  pub all_identifiers_compared : ((t y : List ℕ) (from : ℕ) (w : List ℕ) (k : ℕ) → B.check t ≡ Table → from ≤ k → whole_at (view t) y k ≡ true
+  pub all_identifiers_compared : ((t y : List ℕ) (from : ℕ) (w : List ℕ) (k : ℕ) → B.check t ≡ Ok tt → from ≤ k → whole_at (view t) y k ≡ true
       → differs_in (view t) (frame_at (view t) y k) 1 ≡ false → carded_number (B.card_from t y from w) ≡ 25 → ⊥) → ⊥
   all_identifiers_compared u =
       u (write newest two) half 0 words 0 (checked B D two two_lawful refl two_known) (omega arith)
@@ -231,7 +231,7 @@ module _ (B : Calls) (D : Demands B) where
       (none_read B D two two_lawful refl two_known half words refl half_nowhere)
 
   -- the trailing bits not asked: no 25 where all but the last ones are there
-  pub trailing_bits_asked : ((t y : List ℕ) (from : ℕ) (w : List ℕ) (k : ℕ) → B.check t ≡ Table → from ≤ k
+  pub trailing_bits_asked : ((t y : List ℕ) (from : ℕ) (w : List ℕ) (k : ℕ) → B.check t ≡ Ok tt → from ≤ k
       → k + frame_bits (view t) ≤ 8 * length y + margin_bits (subframe (view t) (subframes (view t) - 1)).trailing
       → agrees_at (view t) y k ≡ true → carded_number (B.card_from t y from w) ≡ 25 → ⊥) → ⊥
   trailing_bits_asked u =

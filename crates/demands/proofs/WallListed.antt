@@ -12,12 +12,12 @@ use Rattle.sample.specs.Flat.{sum, before, position}
 use Rattle.model.specs.Samples.{word_counts, piece, pieces, width_of}
 use Rattle.model.specs.Wall.{wall}
 use Rattle.framing.specs.Reading.{raw_of, width_is, value_of}
-use Rattle.framing.specs.declared.fit.Fit.TheVariants.{Refused}
 use Rattle.table.specs.declared.reason.Reason.TheVariants.{OtherCount, HighWord}
 use Rattle.table.specs.Reasons.{reason_number}
 use Rattle.listed.specs.Decimals.{decimal_text, value_text}
 use Rattle.listed.specs.Lines.{row_text}
 use Rattle.listed.specs.Listing.{heading_text, sample_row, parameter_rows, refused_text, fit_number, words_of}
+use Rattle.std.specs.Prelude.{Result, Ok, Err}
 
 -- 583, 5, 0 and 6 in two bytes each
 abbrev file : List ℕ
@@ -31,8 +31,8 @@ pub record WallRows : Type 0 where
   pub rows : heading_text ++ (parameter_rows wall (words_of file) 0 ++ parameter_rows wall (words_of file) 1) ≡ listing
   pub refused : refused_text 19 0 ≡ quoted_lines ("refused 19 0" ∷ [])
   -- "word count of the frame differs", "any word of the frame at or above two to its bits"
-  pub counted : fit_number (Refused OtherCount) ≡ 19
-  pub high : fit_number (Refused HighWord) ≡ 20
+  pub counted : fit_number (Err OtherCount) ≡ 19
+  pub high : fit_number (Err HighWord) ≡ 20
 
 pub wall_listed : WallRows
 unfolding fit_number reason_number bit_at field signed num_at part_of join width sum before position word_counts piece pieces width_of raw_of width_is value_of decimal_text value_text row_text sample_row parameter_rows refused_text words_of

@@ -2,15 +2,16 @@
 use Rattle.std.specs.Prelude.{ℕ, List}
 use Rattle.std.specs.Borrow.{Bor}
 use Rattle.maker.specs.declared.make.Made.{Made}
-use Rattle.table.specs.declared.check.Checked.{Checked}
 use Rattle.framing.specs.declared.read.Reading.{Reading}
-use Rattle.framing.specs.declared.place.Placed.{Placed}
 use Rattle.framing.specs.declared.compare.Compared.{Compared}
 use Rattle.framing.specs.declared.page.Request.{Request}
 use Rattle.framing.specs.declared.page.Outcome.{Outcome}
 use Rattle.framing.specs.declared.page.Paged.{Paged}
 use Rattle.carding.specs.declared.carded.Carded.{Carded}
 use Rattle.bench.specs.Promises.{Makes, Checks, Reads, Places, Compares, Pages, Names, NameNumbered, NamesBy, NameByNumbered, Cards, FrameBits}
+use Rattle.std.specs.Prelude.{Result, Ok, Err}
+use Rattle.framing.specs.Placing.{Placed}
+use Rattle.table.specs.Answers.{Checked}
 
 pub record Calls : Type 0 where
   -- sheet, lent bytes

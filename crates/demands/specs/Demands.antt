@@ -20,7 +20,6 @@ use Rattle.gather.specs.Ruling.{Refused, judge_of}
 use Rattle.grammar.specs.Says.{Says}
 use Rattle.maker.specs.declared.make.Made.TheVariants as made
 use Rattle.table.specs.Answers.{check_number}
-use Rattle.table.specs.declared.check.Checked.TheVariants.{Table}
 use Rattle.framing.specs.Reading.{read_number}
 use Rattle.framing.specs.Outcomes.{outcome_of}
 use Rattle.framing.specs.Placing.{place_number}
@@ -29,7 +28,6 @@ use Rattle.framing.specs.declared.read.Reading.{Reading}
 use Rattle.framing.specs.declared.read.Reading.TheVariants.{Sample, OverlapDiffers}
 use Rattle.framing.specs.declared.page.Request.{Request}
 use Rattle.framing.specs.declared.page.Outcome.{Outcome}
-use Rattle.framing.specs.declared.place.Placed.TheVariants.{Done}
 use Rattle.framing.specs.declared.compare.Compared.TheVariants.{Passes, Differs}
 use Rattle.carding.specs.Layout.{frame_bits, Carries}
 use Rattle.carding.specs.Search.{FirstFrame}
@@ -38,6 +36,7 @@ use Rattle.carding.specs.declared.carded.Carded.{Carded}
 use Rattle.carding.specs.declared.carded.Carded.TheVariants.{Found}
 use Rattle.demands.specs.Calls.{Calls}
 use Rattle.demands.specs.Refusing.{sample_of, components_of, wholes_of, first_broken, check_rules, read_rules, place_rules, compare_rules, name_rules, mnemonic_rules, card_rules, bits_rules, page_rules}
+use Rattle.std.specs.Prelude.{Result, Ok, Err}
 
 -- ---- words that the demands use
 
@@ -72,7 +71,7 @@ answer_in c f p s =
 
 -- "a table that the check accepts, no matter who made it, and frames that fit it"
 pub record Fitting (B : Calls) (t f : List ℕ) : Type 0 where
-  pub passes : B.check t ≡ Table
+  pub passes : B.check t ≡ Ok tt
   pub fits : meets (view t) f ≡ true
 
 -- 17, "lent table too small": of a sheet that says something, after all else, at line 0
@@ -160,7 +159,7 @@ pub record NameAnswered (B : Calls) : Type 0 where
 
 -- a value placed
 pub record ValuePlaced (B : Calls) (t f : List ℕ) (p s v : ℕ) : Type 0 where
-  pub done : B.place t f p s v ≡ Done
+  pub done : B.place t f p s v ≡ Ok tt
   pub back : B.read t (B.placed t f p s v) p s ≡ answer_for (view t) p s v
   pub other : (q : Place) → (Named (components_of (view t) p s) q → ⊥) → bit_in (B.placed t f p s v) q ≡ bit_in f q
 
@@ -231,7 +230,7 @@ pub record FrameFits (B : Calls) (t f : List ℕ) : Type 0 where
   pub compared : B.compare t f ≡ Passes
 
 pub record Three (B : Calls) : Type 0 where
-  pub passes : (s l : List ℕ) (n : ℕ) → B.make s l ≡ made.Length n → B.check (take n (B.made s l)) ≡ Table
+  pub passes : (s l : List ℕ) (n : ℕ) → B.make s l ≡ made.Length n → B.check (take n (B.made s l)) ≡ Ok tt
   pub answers : (t f : List ℕ) (p s : ℕ) → Fitting B t f → HasSample (view t) p s → Answered B t f p s
   pub exactly : (t f g : List ℕ) → Fitting B t f → Fitting B t g → NoOverlap (view t) → SameAnswers B t f g ↔ SameBits t f g
   -- and of every table one half of it

@@ -14,11 +14,11 @@ use Rattle.model.proofs.Laying.{accepted_laid}
 use Rattle.model.proofs.Views.{subframes_view}
 use Rattle.framing.specs.Fitting.{fit_of}
 use Rattle.framing.specs.Comparing.{differs_in, compared_in, fitted_compared, compared_of}
-use Rattle.framing.specs.declared.fit.Fit.{Fit}
-use Rattle.framing.specs.declared.fit.Fit.TheVariants.{Fits, Refused}
 use Rattle.framing.specs.declared.compare.Compared.TheVariants as answer
 use Rattle.table.specs.declared.reason.Reason.TheVariants.{NoTable}
 use Rattle.ffi.specs.Sizes.{SubframeFits}
+use Rattle.std.specs.Prelude.{Result, Ok, Err}
+use Rattle.framing.specs.Fitting.{Fit}
 
 module _ (b f : List ℕ) where
   -- the first differing subframe, counted from 0
@@ -33,8 +33,8 @@ module _ (b f : List ℕ) where
 
   fitted : (s : ℕ) (d : Fit) → accepts b ≡ true → fitted_compared d (compared_in (view b) f) ≡ answer.Differs s → s < 4294967296
   unfolding fitted_compared compared_in
-  fitted s Fits a e = found s (ltb first (subframes (view b))) a refl e
-  fitted s (Refused q) a e = let z : ◌≡◌ {A = ℕ} 0 1 = cc in absurd (omega arith)
+  fitted s (Ok _) a e = found s (ltb first (subframes (view b))) a refl e
+  fitted s (Err q) a e = let z : ◌≡◌ {A = ℕ} 0 1 = cc in absurd (omega arith)
 
   compared : (s : ℕ) (t : Bool) → accepts b ≡ t → cond t (fitted_compared (fit_of (view b) f) (compared_in (view b) f)) (answer.Refused NoTable) ≡ answer.Differs s → s < 4294967296
   compared s true a e = fitted s (fit_of (view b) f) a e

@@ -1,19 +1,15 @@
 -- The structs that C sees: one definition each, of what the bench answers. The number is 01's or 02's. A read's and a page's are the
 -- bench's own (framing: Outcomes, Paging).
 use Rattle.std.specs.Prelude.{ℕ, List, length}
-use Rattle.maker.specs.Made.{made_number}
-use Rattle.maker.specs.declared.make.Made.{Made}
-use Rattle.maker.specs.declared.make.Made.TheVariants as made
-use Rattle.table.specs.Answers.{asked_refusal, name_answered, place_answered}
+use Rattle.std.specs.Prelude.{Ok, Err}
+use Rattle.maker.specs.Made.{Made, made_number}
+use Rattle.table.specs.Answers.{Asked, asked_refusal, name_answered, place_answered}
 use Rattle.table.specs.Reasons.{reason_number}
-use Rattle.table.specs.declared.naming.Asked.{Asked}
 use Rattle.table.specs.declared.reason.Reason.{Reason}
 use Rattle.framing.specs.Comparing.{compared_number}
 use Rattle.framing.specs.declared.compare.Compared.{Compared}
 use Rattle.framing.specs.declared.compare.Compared.TheVariants as compared
-use Rattle.carding.specs.Answer.{carded_number}
-use Rattle.carding.specs.declared.carded.Carded.{Carded}
-use Rattle.carding.specs.declared.carded.Carded.TheVariants.{Found, Refused}
+use Rattle.carding.specs.Answer.{Carded, carded_number}
 use Rattle.ffi.specs.declared.sheets.OrbMade.{OrbMade}
 use Rattle.ffi.specs.declared.tables.OrbName.{OrbName}
 use Rattle.ffi.specs.declared.frames.OrbCompared.{OrbCompared}
@@ -23,8 +19,8 @@ use Rattle.ffi.specs.declared.cards.OrbCarded.{OrbCarded}
 
 -- the table's length, or the line where the sheet is refused
 unfoldable pub made_at : Made → ℕ
-made_at (made.Length n) = n
-made_at (made.Refused q k) = k
+made_at (Ok n) = n
+made_at (Err r) = r.line
 
 unfoldable pub made_out : Made → OrbMade
 made_out m = record { number = made_number m; at = made_at m }
@@ -53,5 +49,5 @@ compared_out c = record { number = compared_number c; subframe = differing c }
 
 -- position and words, both 0 where refused
 unfoldable pub carded_out : Carded → OrbCarded
-carded_out (Found p n) = record { number = carded_number (Found p n); position = p; count = n }
-carded_out (Refused r) = record { number = carded_number (Refused r); position = 0; count = 0 }
+carded_out (Ok f) = record { number = carded_number (Ok f); position = f.position; count = f.count }
+carded_out (Err r) = record { number = carded_number (Err r); position = 0; count = 0 }

@@ -4,7 +4,8 @@ ghost use Rattle.ffi.specs.Structs.{carded_out};
 ghost use Rattle.ffi.specs.Promises.{CardsOut, FrameBitsOut};
 
 use bench::cards::{card, card_from, card_number, frame_bits};
-use carding::carded::Carded;
+use carding::carded::Found;
+use table::reason::Reason;
 
 // The number is 0, `position` the bits before the frame and `count` its words; both are 0 where the card is refused.
 #[repr(C)]
@@ -15,17 +16,17 @@ pub struct OrbCarded {
     pub count: u32,
 }
 
-fn carded_out(carded: Carded) -> OrbCarded
+fn carded_out(carded: Result<Found, Reason>) -> OrbCarded
     ensures { result ≡ carded_out carded }
 {
     let number = card_number(carded);
     match carded {
-        Carded::Found { position, count } => OrbCarded {
+        Ok(found) => OrbCarded {
             number,
-            position,
-            count,
+            position: found.position,
+            count: found.count,
         },
-        Carded::Refused(_) => OrbCarded {
+        Err(_) => OrbCarded {
             number,
             position: 0,
             count: 0,

@@ -5,7 +5,7 @@ ghost use Rattle.ffi.specs.Sizes.{LengthFits};
 ghost use Rattle.ffi.specs.Promises.{MakesOut};
 
 use bench::sheets::{make, make_number};
-use maker::make::Made;
+use judge::walk::Rejected;
 
 // The number is 0 and `at` the table's length, or `at` is the line where the sheet is refused.
 #[repr(C)]
@@ -15,17 +15,20 @@ pub struct OrbMade {
     pub at: u32,
 }
 
-fn made_out(made: Made) -> OrbMade
+fn made_out(made: Result<usize, Rejected>) -> OrbMade
     requires { LengthFits made }
     ensures { result ≡ made_out made }
 {
     let number = make_number(made);
     match made {
-        Made::Length(n) => OrbMade {
+        Ok(n) => OrbMade {
             number,
             at: n as u32,
         },
-        Made::Refused { refusal: _, line } => OrbMade { number, at: line },
+        Err(rejected) => OrbMade {
+            number,
+            at: rejected.line,
+        },
     }
 }
 

@@ -1,14 +1,13 @@
 // A table of whoever made it: the check, and where its parameters' names stand.
 ghost use Rattle.std.specs.Prelude.{◌≡◌};
-ghost use Rattle.stored.specs.Entry.{OpenedOf};
 ghost use Rattle.table.specs.Answers.{AskedHere};
 ghost use Rattle.ffi.specs.Structs.{no_name_out, name_out};
 ghost use Rattle.ffi.specs.Promises.{ChecksOut, NamesOut, NamesByOut};
 
 use bench::tables::{check, check_number};
-use stored::items::{Opened, Opening, parameter_at};
+use stored::table::Table;
 use table::check::opening;
-use table::naming::{Asked, numbered, with_mnemonic};
+use table::naming::{numbered, with_mnemonic};
 use table::reason::{Reason, reason_number};
 
 // A name is a part of the table: where it starts, and how many bytes it has; all 0 but the number where refused.
@@ -32,21 +31,20 @@ fn no_name(reason: Reason) -> OrbName
     }
 }
 
-fn name_out(t: &[u8], o: Opened, asked: Asked) -> OrbName
-    requires opened_of { OpenedOf t.now o }
-    requires asked_here { AskedHere t.now asked }
-    ensures { result ≡ name_out t.now asked }
+fn name_out(t: &Table, asked: Result<usize, Reason>) -> OrbName
+    requires asked_here { AskedHere t.now.bytes.now asked }
+    ensures { result ≡ name_out t.now.bytes.now asked }
 {
     match asked {
-        Asked::Parameter(i) => {
-            let e = parameter_at(t, o, i);
+        Ok(i) => {
+            let e = t.parameter_at(i);
             OrbName {
                 number: 0,
-                start: o.starts.text + e.start,
+                start: t.opened.starts.text + e.start,
                 length: e.name,
             }
         }
-        Asked::Refused(reason) => no_name(reason),
+        Err(reason) => no_name(reason),
     }
 }
 
@@ -61,10 +59,12 @@ pub fn orb_check(table: &[u8]) -> u32
 pub fn orb_name_of(table: &[u8], parameter: u32) -> OrbName
     ensures { NamesOut table.now parameter result }
 {
-    let opened = opening(table);
-    match opened {
-        Opening::Table(o) => name_out(table, o, numbered(o.counts.parameters, parameter)),
-        Opening::NotTable => no_name(Reason::NoTable),
+    match opening(table) {
+        Some(r) => {
+            let t = &r.declared.table;
+            name_out(t, numbered(t.opened.counts.parameters, parameter))
+        }
+        None => no_name(Reason::NoTable),
     }
 }
 
@@ -72,9 +72,11 @@ pub fn orb_name_of(table: &[u8], parameter: u32) -> OrbName
 pub fn orb_name_by(table: &[u8], mnemonic: &[u8]) -> OrbName
     ensures { NamesByOut table.now mnemonic.now result }
 {
-    let opened = opening(table);
-    match opened {
-        Opening::Table(o) => name_out(table, o, with_mnemonic(table, o, mnemonic)),
-        Opening::NotTable => no_name(Reason::NoTable),
+    match opening(table) {
+        Some(r) => {
+            let t = &r.declared.table;
+            name_out(t, with_mnemonic(t, mnemonic))
+        }
+        None => no_name(Reason::NoTable),
     }
 }

@@ -32,7 +32,7 @@ loop-i-preserved c =
     let m = mix_next f a.requests.now a.results.now i none c.loop-i-test.true (omega (arith, c.loop-i-test.true, c.if-results-requests.false)) in
     record {
       within = omega arith;
-      answered = rw (add-one, e, c.outcome_by.ensures) m;
+      answered = rw (add-one, e, c.outcome_by.ensures _ _ c.page_of-page.ensures) m;
     }
 
 pub returns : goal.returns

@@ -11,6 +11,3 @@ invariant-loop-i l = record {
   within : l.i ≤ length l.requests;
   answered : l.results ≡ mix (outcome_at l.table l.words) l.requests l.initial.results l.i;
 }
-
-abbrev pub decreases-loop-i : goal.decreases-loop-i
-decreases-loop-i l = length l.requests - l.i

@@ -6,17 +6,17 @@ use borrow.Author.Rules.{rules}
 use Rattle.ffi.proofs.tables.name_out.Goals as goal
 
 pub parameter_at-e-requires : goal.parameter_at-e-requires
-parameter_at-e-requires c = record { opened_of = c.requires.opened_of; i_bound = (c.requires.asked_here.each _ c.in-Parameter.is).here }
+parameter_at-e-requires c = record { i_bound = (c.requires.asked_here.each _ c.in-Ok.is).here }
 
 pub overflow_add-result : goal.overflow_add-result
-overflow_add-result c = let l = c.requires.opened_of.starts.text_below in let m = c.parameter_at-e.ensures in search rules
+overflow_add-result c = let l = c.args.t.now.opened_of.starts.text_below in let m = c.parameter_at-e.ensures in search rules
 
-pub returns-in-Parameter : goal.returns-in-Parameter
-returns-in-Parameter c =
-    let e = c.in-Parameter.is in
-    let t = c.requires.opened_of.starts.text_is in
+pub returns-in-Ok : goal.returns-in-Ok
+returns-in-Ok c =
+    let e = c.in-Ok.is in
+    let t = c.args.t.now.opened_of.starts.text_is in
     let p = c.parameter_at-e.ensures in
     named_out _ _ _ _ _ e (c.requires.asked_here.each _ e) (omega (arith, t, p.start_is)) p.name_is
 
-pub returns-in-Refused : goal.returns-in-Refused
-returns-in-Refused c = c.no_name.ensures ∙ no_name_out_lem _ _ _ c.in-Refused.is
+pub returns-in-Err : goal.returns-in-Err
+returns-in-Err c = c.no_name.ensures ∙ no_name_out_lem _ _ _ c.in-Err.is

@@ -1,26 +1,34 @@
 -- What is asked for of an opened table, as the struct.
-use mathlib.Core.Path.{sym, ap, subst, ◌∙◌}
-use Rattle.model.proofs.Laying.{accepted_laid}
-use Rattle.table.specs.Answers.{AskedHere}
-use Rattle.table.specs.declared.naming.Asked.{Asked}
-use Rattle.table.proofs.Accepting.{opened_accepted, opened_not}
+use mathlib.Core.Path.{◌≡◌, refl, sym, ap, subst, ◌∙◌}
+use mathlib.Core.List.{List}
+use Prim.Native.Nat.{ℕ}
+use Rattle.model.specs.View.{view}
+use Rattle.table.specs.Answers.{Asked, AskedHere, asked_mnemonic, called}
+use Rattle.table.proofs.Accepting.{opened_here, opened_not, opened_now, opened_entries}
 use Rattle.table.proofs.Asking.{mnemonic_asked, mnemonic_table, mnemonic_no_table}
 use Rattle.ffi.specs.Structs.{name_out}
 use Rattle.ffi.proofs.Names.{no_name_out_lem}
+use Rattle.ffi.proofs.tables.orb_name_by.Goals.{After-with_mnemonic}
 use Rattle.ffi.proofs.tables.orb_name_by.Goals as goal
 
+-- the parameter of that mnemonic is what is asked of the lent bytes
+asked : (c : After-with_mnemonic) → c.with_mnemonic.result ≡ asked_mnemonic c.args.table.now c.args.mnemonic.now
+asked c =
+    c.with_mnemonic.ensures ∙ ap (λ (x : List ℕ). called (view x) c.args.mnemonic.now) (opened_now c.in-Some.ensures) ∙ mnemonic_table _ _ (opened_here c.in-Some.ensures)
+
 pub with_mnemonic-requires : goal.with_mnemonic-requires
-with_mnemonic-requires c = record { opened_of = c.opening-opened.ensures.opened _ c.in-Table.is; entries = (accepted_laid _ (opened_accepted c.opening-opened.ensures c.in-Table.is)).entries }
+with_mnemonic-requires c = record { entries = opened_entries c.in-Some.ensures }
 
 pub name_out-requires : goal.name_out-requires
 name_out-requires c =
-    let e = c.in-Table.is in
-    record { opened_of = c.opening-opened.ensures.opened _ e; asked_here = subst (λ (x : Asked). AskedHere c.args.table.now x) (sym (c.with_mnemonic.ensures ∙ mnemonic_table _ _ (opened_accepted c.opening-opened.ensures e))) (mnemonic_asked c.args.table.now c.args.mnemonic.now) }
+    let h = subst (λ (x : List ℕ). AskedHere x (asked_mnemonic c.args.table.now c.args.mnemonic.now)) (sym (opened_now c.in-Some.ensures)) (mnemonic_asked c.args.table.now c.args.mnemonic.now) in
+    record { asked_here = subst (λ (x : Asked). AskedHere c.in-Some.r.declared.table.bytes.now x) (sym (asked c)) h }
 
-pub returns-in-Table : goal.returns-in-Table
-returns-in-Table c =
-    let e = c.in-Table.is in
-    c.name_out.ensures ∙ ap (name_out c.args.table.now) (c.with_mnemonic.ensures ∙ mnemonic_table _ _ (opened_accepted c.opening-opened.ensures e))
+pub returns-in-Some : goal.returns-in-Some
+returns-in-Some c =
+    c.name_out.ensures
+    ∙ ap (λ (x : List ℕ). name_out x c.with_mnemonic.result) (opened_now c.in-Some.ensures)
+    ∙ ap (name_out c.args.table.now) (asked (goal.at.returns-in-Some c).After-with_mnemonic)
 
-pub returns-in-NotTable : goal.returns-in-NotTable
-returns-in-NotTable c = c.no_name.ensures ∙ no_name_out_lem _ _ _ (mnemonic_no_table _ _ (opened_not c.opening-opened.ensures c.in-NotTable.is))
+pub returns-in-None : goal.returns-in-None
+returns-in-None c = c.no_name.ensures ∙ no_name_out_lem _ _ _ (mnemonic_no_table _ _ (opened_not c.in-None.ensures refl))

@@ -1,22 +1,29 @@
 -- What is asked for of an opened table, as the struct.
-use mathlib.Core.Path.{sym, ap, subst, ◌∙◌}
-use Rattle.table.specs.Answers.{AskedHere}
-use Rattle.table.specs.declared.naming.Asked.{Asked}
-use Rattle.table.proofs.Accepting.{opened_accepted, opened_not}
+use mathlib.Core.Path.{◌≡◌, refl, sym, ap, subst, ◌∙◌}
+use mathlib.Core.List.{List}
+use Prim.Native.Nat.{ℕ}
+use Rattle.table.specs.Answers.{Asked, AskedHere, asked_number}
+use Rattle.table.proofs.Accepting.{opened_here, opened_not, opened_now, opened_parameters}
 use Rattle.table.proofs.Asking.{number_asked, number_table, number_no_table}
 use Rattle.ffi.specs.Structs.{name_out}
 use Rattle.ffi.proofs.Names.{no_name_out_lem}
+use Rattle.ffi.proofs.tables.orb_name_of.Goals.{After-numbered}
 use Rattle.ffi.proofs.tables.orb_name_of.Goals as goal
+
+-- the parameter of that number is what is asked of the lent bytes
+asked : (c : After-numbered) → c.numbered.result ≡ asked_number c.args.table.now c.args.parameter
+asked c = c.numbered.ensures ∙ number_table _ _ (opened_here c.in-Some.ensures) _ (opened_parameters c.in-Some.ensures)
 
 pub name_out-requires : goal.name_out-requires
 name_out-requires c =
-    let e = c.in-Table.is in
-    record { opened_of = c.opening-opened.ensures.opened _ e; asked_here = subst (λ (x : Asked). AskedHere c.args.table.now x) (sym (c.numbered.ensures ∙ number_table _ _ (opened_accepted c.opening-opened.ensures e) _ (c.opening-opened.ensures.opened _ e).counts.parameters_is)) (number_asked c.args.table.now c.args.parameter) }
+    let h = subst (λ (x : List ℕ). AskedHere x (asked_number c.args.table.now c.args.parameter)) (sym (opened_now c.in-Some.ensures)) (number_asked c.args.table.now c.args.parameter) in
+    record { asked_here = subst (λ (x : Asked). AskedHere c.in-Some.r.declared.table.bytes.now x) (sym (asked c)) h }
 
-pub returns-in-Table : goal.returns-in-Table
-returns-in-Table c =
-    let e = c.in-Table.is in
-    c.name_out.ensures ∙ ap (name_out c.args.table.now) (c.numbered.ensures ∙ number_table _ _ (opened_accepted c.opening-opened.ensures e) _ (c.opening-opened.ensures.opened _ e).counts.parameters_is)
+pub returns-in-Some : goal.returns-in-Some
+returns-in-Some c =
+    c.name_out.ensures
+    ∙ ap (λ (x : List ℕ). name_out x c.numbered.result) (opened_now c.in-Some.ensures)
+    ∙ ap (name_out c.args.table.now) (asked (goal.at.returns-in-Some c).After-numbered)
 
-pub returns-in-NotTable : goal.returns-in-NotTable
-returns-in-NotTable c = c.no_name.ensures ∙ no_name_out_lem _ _ _ (number_no_table _ _ (opened_not c.opening-opened.ensures c.in-NotTable.is))
+pub returns-in-None : goal.returns-in-None
+returns-in-None c = c.no_name.ensures ∙ no_name_out_lem _ _ _ (number_no_table _ _ (opened_not c.in-None.ensures refl))
