@@ -19,16 +19,12 @@ pub fn item_at(t: &[u8], o: usize, p: Place) -> usize
     requires wide_value { plain p.wide ≡ true }
     ensures { (result ≡ num_at p.wide t.now (o + p.at)) × (result < 4294967296) }
 {
-    if p.wide == 1 {
-        return one_at(t, o + p.at);
+    match p.wide {
+        1 => one_at(t, o + p.at),
+        2 => two_at(t, o + p.at),
+        4 => four_at(t, o + p.at),
+        _ => 0,
     }
-    if p.wide == 2 {
-        return two_at(t, o + p.at);
-    }
-    if p.wide == 4 {
-        return four_at(t, o + p.at);
-    }
-    0
 }
 
 // The same where it may be eight bytes wide.
@@ -37,10 +33,10 @@ pub fn long_at(t: &[u8], o: usize, p: Place) -> u64
     requires wide_value { long p.wide ≡ true }
     ensures { result ≡ num_at p.wide t.now (o + p.at) }
 {
-    if p.wide == 8 {
-        return eight_at(t, o + p.at);
+    match p.wide {
+        8 => eight_at(t, o + p.at),
+        _ => item_at(t, o, p) as u64,
     }
-    item_at(t, o, p) as u64
 }
 
 // The number into the item of the entry at o.
@@ -49,12 +45,11 @@ pub fn put_item(out: &mut [u8], o: usize, p: Place, n: usize)
     requires wide_value { plain p.wide ≡ true }
     ensures { out.new ≡ put out.old (o + p.at) (bytes_of p.wide n) }
 {
-    if p.wide == 1 {
-        put_one(out, o + p.at, n);
-    } else if p.wide == 2 {
-        put_two(out, o + p.at, n);
-    } else if p.wide == 4 {
-        put_four(out, o + p.at, n);
+    match p.wide {
+        1 => put_one(out, o + p.at, n),
+        2 => put_two(out, o + p.at, n),
+        4 => put_four(out, o + p.at, n),
+        _ => {}
     }
 }
 
@@ -63,9 +58,8 @@ pub fn put_long(out: &mut [u8], o: usize, p: Place, n: u64)
     requires wide_value { long p.wide ≡ true }
     ensures { out.new ≡ put out.old (o + p.at) (bytes_of p.wide n) }
 {
-    if p.wide == 8 {
-        put_eight(out, o + p.at, n);
-    } else {
-        put_item(out, o, p, n as usize);
+    match p.wide {
+        8 => put_eight(out, o + p.at, n),
+        _ => put_item(out, o, p, n as usize),
     }
 }

@@ -1,52 +1,15 @@
 -- Positions passed over: the eight of a byte, byte after byte. Assumes nothing.
 use mathlib.Core.Path.{◌≡◌, refl, ap, ◌∙◌}
-use mathlib.Core.Bool.{true, false}
+use mathlib.Core.Bool.{true}
 use mathlib.Core.List.{List}
 use Prim.Native.Nat.{ℕ, ◌+◌, ◌-◌, ◌*◌, ◌/◌, ◌≤◌, ◌<◌}
 use native.Mathlib.Decide.{dec_lt}
 use native.Mathlib.Omega.{arith}
-use borrow.Author.Count.{below_more}
 use lib.ListN.{length}
 use Rattle.bits.specs.Word.{field}
 use Rattle.stream.specs.Stream.{bits_from}
 use Rattle.stream.specs.Promise.{Window, Skips, EightUnlike, FirstLike, BitIn}
-
--- ---- the eight lowest bits of a number
-
-module _ (v n want : ℕ) where
-  abbrev Unlike : ℕ → Type 0
-  Unlike j = field v j n ≡ want → ⊥
-
-  -- not from one of the bits below m on
-  abbrev Below : ℕ → Type 0
-  Below m = (j : ℕ) → j < m → Unlike j
-
-  none_below : Below 0
-  none_below j l e = omega arith
-
-  pub eight : Unlike 0 → Unlike 1 → Unlike 2 → Unlike 3 → Unlike 4 → Unlike 5 → Unlike 6 → Unlike 7 → Below 8
-  eight a b c d e f g h = more 7 (more 6 (more 5 (more 4 (more 3 (more 2 (more 1 (more 0 none_below a) b) c) d) e) f) g) h
-    where
-      more : (m : ℕ) → Below m → Unlike m → Below (m + 1)
-      more m u x = below_more Unlike m u x
-
--- nothing is said where one of them is
-pub like : {v n want : ℕ} → EightUnlike v n want false
-like = record { unlike = λ t. let z : ◌≡◌ {A = ℕ} 0 1 = cc in absurd (omega arith) }
-
--- from none of the bits from s to before j on
-module _ (v s n want : ℕ) where
-  abbrev pub Since : ℕ → Type 0
-  Since j = (i : ℕ) → i < j → s ≤ i → field v i n ≡ want → ⊥
-
-  pub since_none : Since s
-  since_none i l m e = omega arith
-
-  pub since_more : (j : ℕ) → Since j → (field v j n ≡ want → ⊥) → Since (j + 1)
-  since_more j u h = below_more (λ (i : ℕ). s ≤ i → field v i n ≡ want → ⊥) j u (λ m. h)
-
-  pub first_like : (r : ℕ) → s ≤ r → r ≤ 8 → Since r → FirstLike v s n want r
-  first_like r a b u = record { after = a; unlike = λ j l m e. u j m l e; most = b }
+use Rattle.std.specs.Prelude.{Some, None}
 
 -- ---- in a stream
 
@@ -101,7 +64,7 @@ module _ (y : List ℕ) (k n want a : ℕ) (h : Passed y k n want a) where
     pub passed_eight : EightUnlike v n want true → Passed y k n want (a + 1)
     passed_eight u = passed_more (λ s o b. u.unlike refl s o)
 
-    module _ {s r : ℕ} (q : BitIn a k s) (f : FirstLike v s n want r) where
+    module _ {s : ℕ} (q : BitIn a k s) where
       -- a bit of byte a behind which k stands is before s
       from : (j : ℕ) → j < 8 → k ≤ 8 * a + j → s ≤ j
       from j o b = go (dec_lt 0 s)
@@ -110,17 +73,17 @@ module _ (y : List ℕ) (k n want a : ℕ) (h : Passed y k n want a) where
           go (yes d) = let t = q.there d in omega arith
           go (no d) = omega arith
 
-      pub passed_last : 8 ≤ r → Passed y k n want (a + 1)
-      passed_last e = passed_more (λ j o b. f.unlike j (from j o b) (omega arith))
+      pub passed_last : FirstLike v s n want None → Passed y k n want (a + 1)
+      passed_last f = passed_more (λ j o b. f j (from j o b) o)
 
-      pub found_like : r < 8 → Skips y k n want (8 * a + r)
-      found_like e =
+      pub found_like : {r : ℕ} → FirstLike v s n want (Some r) → Skips y k n want (8 * a + r)
+      found_like {r} f =
           record {
-            after = omega (arith, q.behind, f.after);
+            after = omega (arith, q.behind, f.0);
             unlike = λ j b m g. go j b m g (dec_lt j (8 * a));
             near = omega (arith, h.since);
           }
         where
           go : (j : ℕ) → k ≤ j → j < 8 * a + r → bits_from y j n ≡ want → Dec (j < 8 * a) → ⊥
           go j b m g (yes d) = h.unlike j b d g
-          go j b m g (no d) = f.unlike (j - 8 * a) (from (j - 8 * a) (omega arith) (omega arith)) (omega arith) (here j (omega arith) (omega arith) g)
+          go j b m g (no d) = f.2 (j - 8 * a) (from (j - 8 * a) (omega arith) (omega arith)) (omega arith) (here j (omega arith) (omega arith) g)

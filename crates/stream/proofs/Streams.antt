@@ -10,7 +10,7 @@ use lib.ListN.{length, get_or, take, drop}
 use lib.Seq.{drop-cons}
 use Rattle.bits.specs.Word.{bit_at, field}
 use Rattle.bits.proofs.Bits.{stack_low, stack_high, bit_lt, bit_mod, bit_div}
-use Rattle.lay.specs.Bytes.{number, num_at}
+use Rattle.lay.specs.Bytes.{number, num_at, AreBytes}
 use Rattle.lay.proofs.Below.{sum_same}
 use Rattle.stream.specs.Stream.{stream_bit, bits_from}
 use Rattle.stream.specs.Promise.{Window}
@@ -61,32 +61,23 @@ abbrev pub bytes_at : List ℕ → ℕ → ℕ → ℕ
 bytes_at y a zero = 0
 bytes_at y a (suc m) = get_or y a 0 + bytes_at y (a + 1) m * 256
 
--- each of them is a byte
-abbrev pub Small : List ℕ → ℕ → ℕ → Type 0
-Small y a zero = Unit {0}
-Small y a (suc m) = (get_or y a 0 < 256) × Small y (a + 1) m
-
-pub small_made : (y : List ℕ) → ((i : ℕ) → get_or y i 0 < 256) → (m a : ℕ) → Small y a m
-small_made y h zero a = tt
-small_made y h (suc m) a = (h a, small_made y h m (a + 1))
-
-pub bytes_bit : (y : List ℕ) (m a : ℕ) → Small y a m → (i : ℕ) → i < 8 * m → bit_at (bytes_at y a m) i ≡ stream_bit y (8 * a + i)
+pub bytes_bit : (y : List ℕ) (m a : ℕ) → AreBytes y → (i : ℕ) → i < 8 * m → bit_at (bytes_at y a m) i ≡ stream_bit y (8 * a + i)
 bytes_bit y zero a b i h = absurd (omega arith)
-bytes_bit y (suc m) a b i h = go (bytes_bit y m (a + 1) b.1) (dec_lt i 8)
+bytes_bit y (suc m) a b i h = go (bytes_bit y m (a + 1) b) (dec_lt i 8)
   where
     go : ((j : ℕ) → j < 8 * m → bit_at (bytes_at y (a + 1) m) j ≡ stream_bit y (8 * (a + 1) + j)) → Dec (i < 8) → bit_at (get_or y a 0 + bytes_at y (a + 1) m * 256) i ≡ stream_bit y (8 * a + i)
-    go more (yes l) = low_bit (get_or y a 0) (bytes_at y (a + 1) m) b.0 i l ∙ byte_bit y a i l
+    go more (yes l) = low_bit (get_or y a 0) (bytes_at y (a + 1) m) (b a) i l ∙ byte_bit y a i l
     go more (no l) =
         let j : ℕ = i - 8 in
         let e : i ≡ 8 + j = omega arith in
         let q : 8 * (a + 1) + j ≡ 8 * a + i = omega arith in
         ap (bit_at (get_or y a 0 + bytes_at y (a + 1) m * 256)) e
-        ∙ high_bit (get_or y a 0) (bytes_at y (a + 1) m) b.0 j
+        ∙ high_bit (get_or y a 0) (bytes_at y (a + 1) m) (b a) j
         ∙ more j (omega arith)
         ∙ ap (stream_bit y) q
 
 -- a field of these bytes is the number in the stream: what the code reads, for every width that they hold
-pub field_bytes_lem : (y : List ℕ) (m a : ℕ) → Small y a m → (s n : ℕ) → s + n ≤ 8 * m → field (bytes_at y a m) s n ≡ bits_from y (8 * a + s) n
+pub field_bytes_lem : (y : List ℕ) (m a : ℕ) → AreBytes y → (s n : ℕ) → s + n ≤ 8 * m → field (bytes_at y a m) s n ≡ bits_from y (8 * a + s) n
 unfolding bits_from
 field_bytes_lem y m a b s n h =
     field_summed (bytes_at y a m) s n
@@ -108,14 +99,14 @@ number_bytes y (suc m) a h =
     ∙ ap (λ (n : ℕ). get_or y a 0 + n) (mul_comm 256 (number (take m (drop (suc a) y))))
     ∙ ap (λ (n : ℕ). get_or y a 0 + n * 256) (ap (λ (n : ℕ). number (take m (drop n y))) (sym (add-one a)) ∙ number_bytes y m (a + 1) (omega arith))
 
-pub window_made : (m : ℕ) (y : List ℕ) (a r : ℕ) → Small y a m → a + m ≤ length y → r ≡ num_at m y a → Window m y a r
+pub window_made : (m : ℕ) (y : List ℕ) (a r : ℕ) → AreBytes y → a + m ≤ length y → r ≡ num_at m y a → Window m y a r
 window_made m y a r b h e =
     record { reads = λ s n l. ap (λ (w : ℕ). field w s n) (e ∙ number_bytes y m a h) ∙ field_bytes_lem y m a b s n l }
 
 pub window_less : (m k : ℕ) (y : List ℕ) (a r : ℕ) → k ≤ m → Window m y a r → Window k y a r
 window_less m k y a r h w = record { reads = λ s n l. w.reads s n (omega arith) }
 
-pub window_three : (y : List ℕ) (a r : ℕ) → Small y a 3 → r ≡ get_or y a 0 + 256 * get_or y (a + 1) 0 + 65536 * get_or y (a + 2) 0 → Window 3 y a r
+pub window_three : (y : List ℕ) (a r : ℕ) → AreBytes y → r ≡ get_or y a 0 + 256 * get_or y (a + 1) 0 + 65536 * get_or y (a + 2) 0 → Window 3 y a r
 window_three y a r b e =
     let q : a + 1 + 1 ≡ a + 2 = omega arith in
     let w : get_or y a 0 + 256 * get_or y (a + 1) 0 + 65536 * get_or y (a + 2) 0 ≡ bytes_at y a 3 = rw q (omega arith) in

@@ -1,5 +1,5 @@
 -- What the functions promise of a stream's bits.
-use Rattle.std.specs.Prelude.{◌≡◌, Bool, true, List, ℕ, ◌+◌, ◌*◌, ◌≤◌, ◌<◌, length}
+use Rattle.std.specs.Prelude.{◌≡◌, Bool, true, List, ℕ, ◌+◌, ◌*◌, ◌≤◌, ◌<◌, length, Option, Some, None}
 use Rattle.bits.specs.Word.{field}
 use Rattle.stream.specs.Stream.{bits_from}
 
@@ -17,11 +17,14 @@ pub record Skips (y : List ℕ) (k n want r : ℕ) : Type 0 where
 pub record EightUnlike (v n want : ℕ) (r : Bool) : Type 0 where
   pub unlike : r ≡ true → (j : ℕ) → j < 8 → field v j n ≡ want → ⊥
 
--- from none of its bits from s to before r on are they; r is at most 8
-pub record FirstLike (v s n want r : ℕ) : Type 0 where
-  pub after : s ≤ r
-  pub unlike : (j : ℕ) → s ≤ j → j < r → field v j n ≡ want → ⊥
-  pub most : r ≤ 8
+-- from none of its bits from s to before m on are they
+abbrev pub UnlikeTo : ℕ → ℕ → ℕ → ℕ → ℕ → Type 0
+UnlikeTo v s n want m = (j : ℕ) → s ≤ j → j < m → field v j n ≡ want → ⊥
+
+-- r is the first of its bits from s on from which on they may be; none is below 8 where there is no r
+abbrev pub FirstLike : ℕ → ℕ → ℕ → ℕ → Option ℕ → Type 0
+FirstLike v s n want None = UnlikeTo v s n want 8
+FirstLike v s n want (Some r) = (s ≤ r) × (r < 8) × UnlikeTo v s n want r
 
 -- position k stands at bit r of byte a, or before it and r is 0
 pub record BitIn (a k r : ℕ) : Type 0 where

@@ -11,10 +11,7 @@ ghost use Rattle.stream.specs.Promise.{Window};
 fn byte_or_zero(stream: &[u8], i: usize) -> u64
     ensures { (result ≡ get_or stream.now i 0) × (result < 256) }
 {
-    if i < stream.len() {
-        return stream[i] as u64;
-    }
-    0
+    u64::from(stream.get(i).copied().unwrap_or(0))
 }
 
 // The bytes from a on: four at once where there are so many, which is one load; else three, zeros beyond the end.
@@ -34,13 +31,13 @@ fn window_at(stream: &[u8], a: usize) -> u64
 fn byte_of(k: usize) -> usize
     ensures { result ≡ k / 8 }
 {
-    bits::bits_above(k as u64, 3) as usize
+    k / 8
 }
 
 fn bit_of(k: usize) -> u32
     ensures { result ≡ k % 8 }
 {
-    bits::low_bits_of(k as u64, 3) as u32
+    (k % 8) as u32
 }
 
 // The number of n bits that stands in the stream from bit k on: 24 bits hold any 16 of them from any bit of a byte on.

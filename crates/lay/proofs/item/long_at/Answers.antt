@@ -1,11 +1,7 @@
--- A number in as many bytes as its place says, eight among them.
-use native.Mathlib.Omega.{arith}
-use Rattle.lay.proofs.Slots.{long_plain, at_wide}
+-- A width that is not 8 is one that item_at reads.
+use borrow.Author.Rules.{rules}
+use Rattle.lay.proofs.Slots.{long_plain}
 use Rattle.lay.proofs.item.long_at.Goals as goal
 
-pub returns-then-p-eq8 : goal.returns-then-p-eq8
-returns-then-p-eq8 c = at_wide 8 _ _ _ _ c.if-p-eq8.true c.eight_at.ensures
-
-pub item_at-requires : goal.item_at-requires
-item_at-requires c =
-    record { wide_in_bounds = omega arith; wide_value = long_plain _ c.requires.wide_value c.if-p-eq8.false }
+pub item_at-requires-clause-wide_value : goal.item_at-requires-clause-wide_value
+item_at-requires-clause-wide_value c = search (rules, long_plain)
