@@ -2,7 +2,7 @@
 use native.Mathlib.Omega.{arith}
 use native.Mathlib.Numerals.{add-one}
 use native.Mathlib.Nat.{pow-suc, pow-le-pow_right, mul-le-mul_left}
-use mathlib.Core.Path.{◌≡◌, sym, ap}
+use mathlib.Core.Path.{◌≡◌, refl, sym, ap}
 use mathlib.Core.Bool.{true, false, ◌&&◌}
 use mathlib.Core.List.{List, [], ◌∷◌}
 use Prim.Native.Nat.{ℕ, zero, suc, ◌+◌, ◌-◌, ◌*◌, ◌^◌, ◌≤◌, ◌<◌}
@@ -10,24 +10,17 @@ use lib.ListN.{length, get_or, drop}
 use lib.Seq.{drop-drop}
 use lib.Dec.{leb, ltb}
 use borrow.Author.Tests.{le-ltb, lt-ltb, le-leb, lt-leb, leb-true, ltb-true}
+use Rattle.std.specs.List.{list_all}
+use Rattle.std.proofs.lemmas.List.Recursion.{same_from_clauses}
 use Rattle.lay.proofs.Tests.{and_0, and_1}
 use Rattle.text.proofs.Cuts.{drop_more, drop_end}
 use Rattle.spell.specs.Digits.{is_digit, all_digits, digits_up_to, place_of, places}
 
 -- ---- all are digits
 
-module _ (base : ℕ) (s : List ℕ) (i : ℕ) (h : i < length s) where
-  pub digits_more : is_digit base (get_or s i 0) ≡ true → all_digits base (drop (i + 1) s) ≡ all_digits base (drop i s)
-  unfolding all_digits
-  digits_more e = rw (drop_more s i h, e)
-
-  pub digits_not : is_digit base (get_or s i 0) ≡ false → all_digits base (drop i s) ≡ false
-  unfolding all_digits
-  digits_not e = rw (drop_more s i h, e)
-
-pub digits_end : (base : ℕ) (s : List ℕ) (i : ℕ) → length s ≤ i → all_digits base (drop i s) ≡ true
+pub all_is : (base : ℕ) (s : List ℕ) → all_digits base s ≡ list_all (is_digit base) s
 unfolding all_digits
-digits_end base s i h = rw (drop_end s i h)
+all_is base s = same_from_clauses (all_digits base) (list_all (is_digit base)) (λ b t. is_digit base b && t) refl (λ x xs. refl) (λ x xs. refl) s
 
 pub digit_at : (base : ℕ) (s : List ℕ) (i : ℕ) → i < length s → all_digits base s ≡ true → (48 ≤ get_or s i 0) × (get_or s i 0 < 48 + base)
 unfolding all_digits
