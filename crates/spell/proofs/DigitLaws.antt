@@ -3,13 +3,13 @@ use native.Mathlib.Omega.{arith}
 use native.Mathlib.Numerals.{add-one}
 use native.Mathlib.Nat.{pow-suc, pow-le-pow_right, mul-le-mul_left}
 use mathlib.Core.Path.{◌≡◌, refl, sym, ap}
-use mathlib.Core.Bool.{true, false, ◌&&◌}
+use mathlib.Core.Bool.{true, ◌&&◌}
 use mathlib.Core.List.{List, [], ◌∷◌}
 use Prim.Native.Nat.{ℕ, zero, suc, ◌+◌, ◌-◌, ◌*◌, ◌^◌, ◌≤◌, ◌<◌}
 use lib.ListN.{length, get_or, drop}
 use lib.Seq.{drop-drop}
 use lib.Dec.{leb, ltb}
-use borrow.Author.Tests.{le-ltb, lt-ltb, le-leb, lt-leb, leb-true, ltb-true}
+use borrow.Author.Tests.{lt-ltb, le-leb, leb-true, ltb-true}
 use Rattle.std.specs.List.{list_all}
 use Rattle.std.proofs.lemmas.List.Recursion.{same_from_clauses}
 use Rattle.lay.proofs.Tests.{and_0, and_1}
@@ -33,14 +33,6 @@ digit_at base (b ∷ s) (suc i) h e = digit_at base s i (omega arith) (and_1 (is
 -- ---- 1 to n digits, by the tests that the code makes
 
 module _ (base n : ℕ) (s : List ℕ) where
-  pub up_empty : length s ≡ 0 → false ≡ digits_up_to base n s
-  unfolding digits_up_to
-  up_empty h = simp (le-ltb 0 (length s) (omega arith))
-
-  pub up_long : n < length s → false ≡ digits_up_to base n s
-  unfolding digits_up_to
-  up_long h = simp (lt-ltb 0 (length s) (omega arith), lt-leb _ _ h)
-
   pub up_all : 0 < length s → length s ≤ n → digits_up_to base n s ≡ all_digits base s
   unfolding digits_up_to
   up_all k h = simp (lt-ltb 0 (length s) k, le-leb _ _ h)

@@ -25,7 +25,7 @@ pub fn integer(f: &[u8], n: usize, least: u64, most: u64) -> Result<u64, Refusal
 }
 
 // 8, 6, 11 for 0, 13 beyond the number declared.
-#[tactic(auto, using(crate::proofs::AnswerLaws::integer_passes, crate::proofs::AnswerLaws::integer_refused), unfolding(crate::specs::Integers::declared_of, crate::specs::Integers::declared_judged, text::specs::Refusals::first))]
+#[tactic(auto, using(crate::proofs::AnswerLaws::integer_passes, crate::proofs::AnswerLaws::integer_same), unfolding(crate::specs::Integers::declared_of, crate::specs::Integers::declared_judged, text::specs::Refusals::first))]
 pub fn declared(f: &[u8], count: u64) -> Result<u64, Refusal>
     ensures { result ≡ declared_of count f.now }
 {

@@ -47,7 +47,7 @@ fn bit_range(f: &[u8]) -> Result<Bits, Refusal>
 }
 
 // 8, 6, 11 for 0 or a above b, 13 beyond the word's bits.
-#[tactic(auto, using(crate::proofs::AnswerLaws::range_passes, crate::proofs::AnswerLaws::range_refused), unfolding(crate::specs::BitRanges::component_bits_of, crate::specs::BitRanges::component_bits_judged, text::specs::Refusals::first))]
+#[tactic(auto, using(crate::proofs::AnswerLaws::range_passes, crate::proofs::AnswerLaws::range_same), unfolding(crate::specs::BitRanges::component_bits_of, crate::specs::BitRanges::component_bits_judged, text::specs::Refusals::first))]
 pub fn component_bits(f: &[u8], count: u64) -> Result<Bits, Refusal>
     ensures { result ≡ component_bits_of count f.now }
 {
@@ -59,7 +59,7 @@ pub fn component_bits(f: &[u8], count: u64) -> Result<Bits, Refusal>
 }
 
 // 6, 11: an empty field passes; 1 to 32.
-#[tactic(auto, using(crate::proofs::AnswerLaws::range_passes, crate::proofs::AnswerLaws::range_refused), unfolding(crate::specs::BitRanges::source_bits_judged, text::specs::Refusals::first))]
+#[tactic(auto, using(crate::proofs::AnswerLaws::range_passes, crate::proofs::AnswerLaws::range_same), unfolding(crate::specs::BitRanges::source_bits_judged, text::specs::Refusals::first))]
 pub fn source_bits(f: &[u8]) -> Result<(), Refusal>
     ensures { result ≡ source_bits_judged f.now }
 {
