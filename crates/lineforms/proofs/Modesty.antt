@@ -9,9 +9,10 @@ use borrow.Author.Tests.{leb-true, ltb-false}
 use Rattle.text.specs.Blanks.{is_empty}
 use Rattle.text.specs.Fields.{field_of}
 use Rattle.text.specs.Refusals.{when, first}
-use Rattle.text.specs.declared.refusal.Judged.{Judged}
+use Rattle.text.specs.Refusals.{Judged}
 use Rattle.text.specs.declared.refusal.Refusal.TheVariants.{FieldEmpty, Misspelt, OutsideLimit, BeyondDeclared}
-use Rattle.spell.specs.Answers.{says_number, says_bits, amount_of}
+use Rattle.text.specs.Refusals.{says}
+use Rattle.spell.specs.Answers.{amount_of}
 use Rattle.spell.specs.Digits.{digits_up_to, number}
 use Rattle.spell.specs.Integers.{most_of_six, integer_judged, integer_of}
 use Rattle.spell.specs.BitRanges.{is_bits, low_bit, high_bit, bits_judged, component_bits_judged, component_bits_of}
@@ -23,7 +24,7 @@ amount_most : (n least most : ℕ) (f : List ℕ) → amount_of (integer_of n le
 unfolding integer_of integer_judged first
 amount_most n least most f = go (is_empty f) (not (digits_up_to 10 n f)) (leb least (number 10 f)) (leb (number 10 f) most) refl
   where
-    go : (a b c d : Bool) → leb (number 10 f) most ≡ d → amount_of (says_number (first (when a FieldEmpty ∷ when b Misspelt ∷ when (not (c && d)) OutsideLimit ∷ [])) (number 10 f)) ≤ most
+    go : (a b c d : Bool) → leb (number 10 f) most ≡ d → amount_of (says (first (when a FieldEmpty ∷ when b Misspelt ∷ when (not (c && d)) OutsideLimit ∷ [])) (number 10 f)) ≤ most
     go true b c d e = omega arith
     go false true c d e = omega arith
     go false false false d e = omega arith
@@ -35,11 +36,11 @@ bits_modest : (count : ℕ) (f : List ℕ) → (low_of (component_bits_of count 
 unfolding component_bits_of component_bits_judged bits_judged first
 bits_modest count f = go (is_empty f) (not (is_bits f)) (eqb (low_bit f) 0) (ltb (high_bit f) (low_bit f)) (ltb count (high_bit f)) refl refl
   where
-    says : Bool → Bool → Bool → Bool → Bool → Judged
-    says a b c d e = first (first (when a FieldEmpty ∷ when b Misspelt ∷ when (c || d) OutsideLimit ∷ []) ∷ when e BeyondDeclared ∷ [])
+    tests : Bool → Bool → Bool → Bool → Bool → Judged
+    tests a b c d e = first (first (when a FieldEmpty ∷ when b Misspelt ∷ when (c || d) OutsideLimit ∷ []) ∷ when e BeyondDeclared ∷ [])
 
     go : (a b c d e : Bool) → ltb (high_bit f) (low_bit f) ≡ d → ltb count (high_bit f) ≡ e
-        → (low_of (says_bits (says a b c d e) (low_bit f) (high_bit f)) ≤ high_of (says_bits (says a b c d e) (low_bit f) (high_bit f))) × (high_of (says_bits (says a b c d e) (low_bit f) (high_bit f)) ≤ count)
+        → (low_of (says (tests a b c d e) (record { low = low_bit f; high = high_bit f })) ≤ high_of (says (tests a b c d e) (record { low = low_bit f; high = high_bit f }))) × (high_of (says (tests a b c d e) (record { low = low_bit f; high = high_bit f })) ≤ count)
     go true b c d e p q = (omega arith, omega arith)
     go false true c d e p q = (omega arith, omega arith)
     go false false true d e p q = (omega arith, omega arith)

@@ -1,8 +1,8 @@
 -- The tests of a line's fields, left to right: one list for each kind of line, in the order of 01's "Lines of a sheet".
 use Rattle.std.specs.Prelude.{ℕ, ◌-◌, List, [], ◌∷◌, ◌++◌, Bool, true, false, cond, eqb, length, get_or}
 use Rattle.text.specs.Fields.{field_of}
-use Rattle.text.specs.declared.refusal.Judged.{Judged}
-use Rattle.spell.specs.Answers.{number_judged, amount_of}
+use Rattle.text.specs.Refusals.{Judged, judged_of}
+use Rattle.spell.specs.Answers.{amount_of}
 use Rattle.spell.specs.Texts.{longest_text, text_judged, version_judged, empty_judged}
 use Rattle.spell.specs.Truths.{truth_judged, truth_or_empty_judged}
 use Rattle.spell.specs.Integers.{most_of_six, integer_judged, integer_of, declared_judged, margin_of, label_judged}
@@ -52,8 +52,8 @@ abbrev pub record_fields : List ℕ → List Judged
 record_fields l =
     integer_judged 6 1 sheet_limits.bits (field_of 0 l)
     ∷ integer_judged 6 1 sheet_limits.words (field_of 1 l)
-    ∷ number_judged (margin_of sheet_limits.margin blank_margin (field_of 2 l))
-    ∷ number_judged (margin_of sheet_limits.margin blank_margin (field_of 3 l))
+    ∷ judged_of (margin_of sheet_limits.margin blank_margin (field_of 2 l))
+    ∷ judged_of (margin_of sheet_limits.margin blank_margin (field_of 3 l))
     ∷ seconds_judged (field_of 4 l)
     ∷ []
 

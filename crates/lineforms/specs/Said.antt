@@ -1,16 +1,14 @@
 -- What a line says, once its tests pass.
-use Rattle.std.specs.Prelude.{ℕ, ◌≤◌, List, Bool}
+use Rattle.std.specs.Prelude.{ℕ, ◌≤◌, List, Bool, Result, Ok, Err}
 use Rattle.text.specs.Fields.{field_of}
-use Rattle.spell.specs.Answers.{amount_of}
+use Rattle.spell.specs.Answers.{Seconds, amount_of}
 use Rattle.spell.specs.Truths.{says_true}
 use Rattle.spell.specs.Integers.{most_of_six, integer_of, margin_of}
 use Rattle.spell.specs.Decimals.{decimal_of}
 use Rattle.spell.specs.BitRanges.{component_bits_of}
 use Rattle.spell.specs.Durations.{seconds_of}
 use Rattle.spell.specs.declared.answers.Bits.{Bits}
-use Rattle.spell.specs.declared.answers.Bits.TheVariants as bits
-use Rattle.spell.specs.declared.answers.Seconds.{Seconds}
-use Rattle.spell.specs.declared.answers.Seconds.TheVariants as seconds
+use Rattle.text.specs.declared.refusal.Refusal.{Refusal}
 use Rattle.model.specs.Margin.{blank_margin}
 use Rattle.model.specs.Forms.{sheet_limits}
 use Rattle.lineforms.specs.LineFields.{subframe_in}
@@ -25,12 +23,12 @@ abbrev pub sequential_in : List ℕ → Bool
 sequential_in l = says_true (field_of 8 l)
 
 abbrev pub numerator_of : Seconds → ℕ
-numerator_of (seconds.Value n d) = n
-numerator_of (seconds.Refused r) = 0
+numerator_of (Ok x) = x.numerator
+numerator_of (Err r) = 0
 
 abbrev pub denominator_of : Seconds → ℕ
-denominator_of (seconds.Value n d) = d
-denominator_of (seconds.Refused r) = 0
+denominator_of (Ok x) = x.denominator
+denominator_of (Err r) = 0
 
 -- the line of a record pair
 abbrev pub pair_in : List ℕ → Pair
@@ -48,13 +46,13 @@ pair_in l =
 abbrev pub identifier_in : List ℕ → Bool
 identifier_in l = says_true (field_of 3 l)
 
-abbrev pub low_of : Bits → ℕ
-low_of (bits.Range a b) = a
-low_of (bits.Refused r) = 0
+abbrev pub low_of : Result Bits Refusal → ℕ
+low_of (Ok x) = x.low
+low_of (Err r) = 0
 
-abbrev pub high_of : Bits → ℕ
-high_of (bits.Range a b) = b
-high_of (bits.Refused r) = 0
+abbrev pub high_of : Result Bits Refusal → ℕ
+high_of (Ok x) = x.high
+high_of (Err r) = 0
 
 -- a component line
 abbrev pub part_in : List ℕ → Part

@@ -6,7 +6,7 @@ ghost use Rattle.lineforms.specs.Forms.{word_form, count_form, either_form, open
 use text::field::field_count;
 use text::keyword::{Keyword, keyword_of};
 
-#[derive(Clone, Copy)]
+#[derive(Clone, Copy, Debug, PartialEq, Eq)]
 pub enum Due {
     HeaderWord,
     HeaderLine,
@@ -27,7 +27,7 @@ pub enum Due {
     Nothing,
 }
 
-#[derive(Clone, Copy)]
+#[derive(Clone, Copy, Debug, PartialEq, Eq)]
 pub enum Form {
     Stray,
     Superframe,
@@ -51,6 +51,7 @@ pub enum Form {
 }
 
 // By the keyword: one form for each, for any other line none.
+#[tactic(auto, unfolding(crate::specs::Forms::word_form))]
 fn word_form(line: &[u8], heading: Form, recording: Form, nothing: Form, opened: Form) -> Form
     ensures { result ≡ word_form line.now heading recording nothing opened }
 {
@@ -64,23 +65,27 @@ fn word_form(line: &[u8], heading: Form, recording: Form, nothing: Form, opened:
 }
 
 // A line of n fields.
+#[tactic(auto, unfolding(crate::specs::Forms::count_form))]
 fn count_form(line: &[u8], n: usize, form: Form) -> Form
     ensures { result ≡ count_form line.now n form }
 {
     if field_count(line) == n {
-        return form;
+        form
+    } else {
+        Form::Stray
     }
-    Form::Stray
 }
 
 // A line of n fields or one of m.
+#[tactic(auto, unfolding(crate::specs::Forms::either_form))]
 fn either_form(line: &[u8], n: usize, form: Form, m: usize, other: Form) -> Form
     ensures { result ≡ either_form line.now n form m other }
 {
     if field_count(line) == n {
-        return form;
+        form
+    } else {
+        count_form(line, m, other)
     }
-    count_form(line, m, other)
 }
 
 // The first line.
@@ -123,6 +128,7 @@ fn parameter_form(line: &[u8]) -> Form
 }
 
 // After so many record pairs, of so many subframes.
+#[tactic(auto, unfolding(crate::specs::Forms::opening_form))]
 fn opening_form(line: &[u8], pairs: usize, subframes: usize) -> Form
     ensures { result ≡ opening_form line.now pairs subframes }
 {
@@ -144,16 +150,11 @@ fn opening_form(line: &[u8], pairs: usize, subframes: usize) -> Form
             Form::ParameterWord,
         );
     }
-    word_form(
-        line,
-        Form::Stray,
-        Form::RecordWord,
-        Form::Stray,
-        Form::Stray,
-    )
+    record_form(line)
 }
 
 // A component line opens one more sample, a blank line ends them; two fields are a superframe line.
+#[tactic(auto, unfolding(crate::specs::Forms::after_sample_form))]
 fn after_sample_form(line: &[u8]) -> Form
     ensures { result ≡ after_sample_form line.now }
 {
@@ -163,6 +164,7 @@ fn after_sample_form(line: &[u8]) -> Form
     either_form(line, 4, Form::OpeningComponent, 0, Form::SamplesEnd)
 }
 
+#[tactic(auto, unfolding(crate::specs::Forms::form_of))]
 pub fn form_of(due: Due, pairs: usize, subframes: usize, line: &[u8]) -> Form
     ensures { result ≡ form_of due pairs subframes line.now }
 {
@@ -191,17 +193,14 @@ pub fn due_after(form: Form) -> Due
     ensures { result ≡ due_after form }
 {
     match form {
-        Form::Stray => Due::Nothing,
-        Form::Superframe => Due::Nothing,
+        Form::Stray | Form::Superframe | Form::NoneWord => Due::Nothing,
         Form::HeaderWord => Due::HeaderLine,
         Form::HeaderLine => Due::RecordWord,
         Form::RecordWord => Due::RecordLine,
         Form::RecordLine => Due::Opening,
-        Form::NoneWord => Due::Nothing,
         Form::ParameterWord => Due::NameLine,
         Form::NameLine => Due::FirstComponent,
-        Form::OpeningComponent => Due::NextComponent,
-        Form::ComponentLine => Due::NextComponent,
+        Form::OpeningComponent | Form::ComponentLine => Due::NextComponent,
         Form::TimeLine => Due::AfterSample,
         Form::SamplesEnd => Due::SignedLine,
         Form::SignedLine => Due::RangeLine,

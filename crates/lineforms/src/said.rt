@@ -1,10 +1,11 @@
 // What a line says, once its tests pass.
 ghost use Rattle.std.specs.Prelude.{◌≡◌};
 ghost use Rattle.lineforms.specs.LineFields.{subframe_in};
-ghost use Rattle.lineforms.specs.Said.{subframes_in, sequential_in, numerator_of, denominator_of, pair_in, identifier_in, low_of, high_of, part_in, Modest, time_in, signed_in, value_in};
+ghost use Rattle.lineforms.specs.Said.{subframes_in, sequential_in, pair_in, identifier_in, part_in, Modest, time_in, signed_in, value_in};
 
 use model::limits::{BITS, BLANK_MARGIN, MARGIN, SUBFRAMES, VALUE, WORDS};
-use spell::answers::{Bits, Seconds, amount};
+use ratio::Ratio;
+use spell::answers::Bits;
 use spell::decimals::decimal;
 use spell::integers::{integer, margin};
 use spell::ranges::component_bits;
@@ -37,7 +38,7 @@ pub struct Part {
 pub fn subframes_in(line: &[u8]) -> u64
     ensures { result ≡ subframes_in line.now }
 {
-    amount(integer(field_of(line, 11), 6, 1, SUBFRAMES as u64))
+    integer(field_of(line, 11), 6, 1, SUBFRAMES as u64).unwrap_or(0)
 }
 
 pub fn sequential_in(line: &[u8]) -> bool
@@ -46,41 +47,20 @@ pub fn sequential_in(line: &[u8]) -> bool
     says_true(field_of(line, 8))
 }
 
-fn numerator_of(x: Seconds) -> u64
-    ensures { result ≡ numerator_of x }
-{
-    match x {
-        Seconds::Value {
-            numerator,
-            denominator: _,
-        } => numerator,
-        Seconds::Refused(_) => 0,
-    }
-}
-
-fn denominator_of(x: Seconds) -> u64
-    ensures { result ≡ denominator_of x }
-{
-    match x {
-        Seconds::Value {
-            numerator: _,
-            denominator,
-        } => denominator,
-        Seconds::Refused(_) => 0,
-    }
-}
-
 pub fn pair_in(line: &[u8]) -> Pair
     ensures { result ≡ pair_in line.now }
 {
-    let x = seconds(field_of(line, 4));
+    let x = seconds(field_of(line, 4)).unwrap_or(Ratio {
+        numerator: 0,
+        denominator: 0,
+    });
     Pair {
-        bits: amount(integer(field_of(line, 0), 6, 1, BITS as u64)),
-        words: amount(integer(field_of(line, 1), 6, 1, WORDS as u64)),
-        leading: amount(margin(field_of(line, 2), MARGIN as u64, BLANK_MARGIN as u64)),
-        trailing: amount(margin(field_of(line, 3), MARGIN as u64, BLANK_MARGIN as u64)),
-        numerator: numerator_of(x),
-        denominator: denominator_of(x),
+        bits: integer(field_of(line, 0), 6, 1, BITS as u64).unwrap_or(0),
+        words: integer(field_of(line, 1), 6, 1, WORDS as u64).unwrap_or(0),
+        leading: margin(field_of(line, 2), MARGIN as u64, BLANK_MARGIN as u64).unwrap_or(0),
+        trailing: margin(field_of(line, 3), MARGIN as u64, BLANK_MARGIN as u64).unwrap_or(0),
+        numerator: x.numerator,
+        denominator: x.denominator,
     }
 }
 
@@ -91,41 +71,24 @@ pub fn identifier_in(line: &[u8]) -> bool
     says_true(field_of(line, 3))
 }
 
-fn low_of(x: Bits) -> u64
-    ensures { result ≡ low_of x }
-{
-    match x {
-        Bits::Range { low, high: _ } => low,
-        Bits::Refused(_) => 0,
-    }
-}
-
-fn high_of(x: Bits) -> u64
-    ensures { result ≡ high_of x }
-{
-    match x {
-        Bits::Range { low: _, high } => high,
-        Bits::Refused(_) => 0,
-    }
-}
-
 // The subframe that a component line names.
 pub fn subframe_in(line: &[u8]) -> u64
     ensures { result ≡ subframe_in line.now }
 {
-    amount(integer(field_of(line, 0), 6, 0, 999999))
+    integer(field_of(line, 0), 6, 0, 999999).unwrap_or(0)
 }
 
+#[tactic(auto, using(crate::proofs::Modesty::part_modest))]
 pub fn part_in(line: &[u8]) -> Part
     ensures { (result ≡ part_in line.now) × Modest result }
 {
-    let x = component_bits(field_of(line, 3), 999999);
+    let x = component_bits(field_of(line, 3), 999999).unwrap_or(Bits { low: 0, high: 0 });
     Part {
         subframe: subframe_in(line),
-        word: amount(integer(field_of(line, 1), 6, 0, 999999)),
-        low: low_of(x),
-        high: high_of(x),
-        overlap: amount(integer(field_of(line, 2), 6, 0, 999999)),
+        word: integer(field_of(line, 1), 6, 0, 999999).unwrap_or(0),
+        low: x.low,
+        high: x.high,
+        overlap: integer(field_of(line, 2), 6, 0, 999999).unwrap_or(0),
     }
 }
 
@@ -133,7 +96,7 @@ pub fn part_in(line: &[u8]) -> Part
 pub fn time_in(line: &[u8]) -> u64
     ensures { result ≡ time_in line.now }
 {
-    amount(decimal(field_of(line, 0), 3))
+    decimal(field_of(line, 0), 3).unwrap_or(0)
 }
 
 // The 5-field line: whether signed.
@@ -147,5 +110,5 @@ pub fn signed_in(line: &[u8]) -> bool
 pub fn value_in(line: &[u8]) -> u64
     ensures { result ≡ value_in line.now }
 {
-    amount(integer(field_of(line, 0), 10, 0, VALUE as u64))
+    integer(field_of(line, 0), 10, 0, VALUE as u64).unwrap_or(0)
 }

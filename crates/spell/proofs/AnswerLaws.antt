@@ -1,78 +1,60 @@
--- What an answer tells of its tests. Assumes nothing.
-use native.Mathlib.Omega.{arith}
-use mathlib.Core.Path.{◌≡◌, refl, sym, ap}
+-- What a field says tells of its tests: they are judged as it is, and where it says a value they pass. Assumes nothing.
+use mathlib.Core.Path.{◌≡◌, sym}
 use mathlib.Core.List.{List}
 use Prim.Native.Nat.{ℕ}
-use Rattle.text.specs.declared.refusal.Refusal.{Refusal}
-use Rattle.text.specs.declared.refusal.Judged.{Judged}
-use Rattle.text.specs.declared.refusal.Judged.TheVariants as judged
-use Rattle.spell.specs.declared.answers.Number.TheVariants as number
-use Rattle.spell.specs.declared.answers.Bits.TheVariants as bits
-use Rattle.spell.specs.Digits.{number as number_of}
-use Rattle.spell.specs.Integers.{integer_judged, integer_of}
-use Rattle.spell.specs.BitRanges.{low_bit, high_bit, bits_judged, bits_of}
-use Rattle.spell.specs.Answers.{says_number, says_bits}
+use Rattle.std.specs.Prelude.{Ok}
+use Rattle.text.specs.Refusals.{judged_of}
+use Rattle.text.proofs.Order.{says_ok, judged_says}
+use Rattle.spell.specs.Digits.{number}
+use Rattle.spell.specs.Truths.{truth_judged, truth_of}
+use Rattle.spell.specs.Integers.{integer_judged, integer_of, declared_judged, declared_of, label_judged, label_of}
+use Rattle.spell.specs.Decimals.{decimal_judged, decimal_of}
+use Rattle.spell.specs.BitRanges.{low_bit, high_bit, bits_judged, bits_of, component_bits_judged, component_bits_of}
+use Rattle.spell.specs.Durations.{seconds_judged, seconds_of}
+use Rattle.spell.specs.declared.answers.Bits.{Bits}
 
--- a value: all tests passed, and it is what the field says
-number_passes : (j : Judged) (v w : ℕ) → says_number j v ≡ number.Value w → j ≡ judged.Passes
-number_passes judged.Passes v w e = refl
-number_passes (judged.Refused r) v w e = let o : ◌≡◌ {A = ℕ} 0 1 = cc in absurd (omega arith)
+-- ---- the two that others are built on
 
-number_value : (j : Judged) (v w : ℕ) → says_number j v ≡ number.Value w → w ≡ v
-number_value judged.Passes v w e = cc
-number_value (judged.Refused r) v w e = let o : ◌≡◌ {A = ℕ} 0 1 = cc in absurd (omega arith)
-
-number_refused : (j : Judged) (v : ℕ) (r : Refusal) → says_number j v ≡ number.Refused r → j ≡ judged.Refused r
-number_refused judged.Passes v r e = let o : ◌≡◌ {A = ℕ} 0 1 = cc in absurd (omega arith)
-number_refused (judged.Refused q) v r e =
-    let k : q ≡ r = cc in
-    ap judged.Refused k
-
-bits_passes : (j : Judged) (a b x y : ℕ) → says_bits j a b ≡ bits.Range x y → j ≡ judged.Passes
-bits_passes judged.Passes a b x y e = refl
-bits_passes (judged.Refused r) a b x y e = let o : ◌≡◌ {A = ℕ} 0 1 = cc in absurd (omega arith)
-
-bits_low : (j : Judged) (a b x y : ℕ) → says_bits j a b ≡ bits.Range x y → x ≡ a
-bits_low judged.Passes a b x y e = cc
-bits_low (judged.Refused r) a b x y e = let o : ◌≡◌ {A = ℕ} 0 1 = cc in absurd (omega arith)
-
-bits_high : (j : Judged) (a b x y : ℕ) → says_bits j a b ≡ bits.Range x y → y ≡ b
-bits_high judged.Passes a b x y e = cc
-bits_high (judged.Refused r) a b x y e = let o : ◌≡◌ {A = ℕ} 0 1 = cc in absurd (omega arith)
-
-bits_refused : (j : Judged) (a b : ℕ) (r : Refusal) → says_bits j a b ≡ bits.Refused r → j ≡ judged.Refused r
-bits_refused judged.Passes a b r e = let o : ◌≡◌ {A = ℕ} 0 1 = cc in absurd (omega arith)
-bits_refused (judged.Refused q) a b r e =
-    let k : q ≡ r = cc in
-    ap judged.Refused k
-
--- the same of the two spellings that others are built on
 module _ (n least most : ℕ) (f : List ℕ) where
-  pub integer_passes : (w : ℕ) → integer_of n least most f ≡ number.Value w → integer_judged n least most f ≡ judged.Passes
+  pub integer_passes : (w : ℕ) → integer_of n least most f ≡ Ok w → (integer_judged n least most f ≡ Ok tt) × (number 10 f ≡ w)
   unfolding integer_of
-  integer_passes w e = number_passes (integer_judged n least most f) (number_of 10 f) w e
+  integer_passes w e = let p = says_ok _ _ w e in (p.0, sym p.1)
 
-  pub integer_value : (w : ℕ) → integer_of n least most f ≡ number.Value w → number_of 10 f ≡ w
+  pub integer_same : integer_judged n least most f ≡ judged_of (integer_of n least most f)
   unfolding integer_of
-  integer_value w e = sym (number_value (integer_judged n least most f) (number_of 10 f) w e)
-
-  pub integer_refused : (r : Refusal) → integer_of n least most f ≡ number.Refused r → integer_judged n least most f ≡ judged.Refused r
-  unfolding integer_of
-  integer_refused r e = number_refused (integer_judged n least most f) (number_of 10 f) r e
+  integer_same = sym (judged_says _ _)
 
 module _ (f : List ℕ) where
-  pub range_passes : (a b : ℕ) → bits_of f ≡ bits.Range a b → bits_judged f ≡ judged.Passes
+  pub range_passes : (b : Bits) → bits_of f ≡ Ok b → (bits_judged f ≡ Ok tt) × (record { low = low_bit f; high = high_bit f } ≡ b)
   unfolding bits_of
-  range_passes a b e = bits_passes (bits_judged f) (low_bit f) (high_bit f) a b e
+  range_passes b e = let p = says_ok _ _ b e in (p.0, sym p.1)
 
-  pub range_low : (a b : ℕ) → bits_of f ≡ bits.Range a b → low_bit f ≡ a
+  pub range_same : bits_judged f ≡ judged_of (bits_of f)
   unfolding bits_of
-  range_low a b e = sym (bits_low (bits_judged f) (low_bit f) (high_bit f) a b e)
+  range_same = sym (judged_says _ _)
 
-  pub range_high : (a b : ℕ) → bits_of f ≡ bits.Range a b → high_bit f ≡ b
-  unfolding bits_of
-  range_high a b e = sym (bits_high (bits_judged f) (low_bit f) (high_bit f) a b e)
+-- ---- the tests of the other spellings
 
-  pub range_refused : (r : Refusal) → bits_of f ≡ bits.Refused r → bits_judged f ≡ judged.Refused r
-  unfolding bits_of
-  range_refused r e = bits_refused (bits_judged f) (low_bit f) (high_bit f) r e
+pub declared_same : (count : ℕ) (f : List ℕ) → declared_judged count f ≡ judged_of (declared_of count f)
+unfolding declared_of
+declared_same count f = sym (judged_says _ _)
+
+pub label_same : (f : List ℕ) → label_judged f ≡ judged_of (label_of f)
+unfolding label_of
+label_same f = sym (judged_says _ _)
+
+pub decimal_same : (n : ℕ) (f : List ℕ) → decimal_judged n f ≡ judged_of (decimal_of n f)
+unfolding decimal_of
+decimal_same n f = sym (judged_says _ _)
+
+pub truth_same : (f : List ℕ) → truth_judged f ≡ judged_of (truth_of f)
+unfolding truth_of
+truth_same f = sym (judged_says _ _)
+
+pub component_same : (count : ℕ) (f : List ℕ) → component_bits_judged count f ≡ judged_of (component_bits_of count f)
+unfolding component_bits_of
+component_same count f = sym (judged_says _ _)
+
+pub seconds_same : (f : List ℕ) → seconds_judged f ≡ judged_of (seconds_of f)
+unfolding seconds_of
+seconds_same f = sym (judged_says _ _)

@@ -2,32 +2,25 @@
 use native.Mathlib.Omega.{arith}
 use native.Mathlib.Numerals.{add-one}
 use native.Mathlib.Nat.{pow-suc, pow-le-pow_right, mul-le-mul_left}
-use mathlib.Core.Path.{◌≡◌, sym, ap}
-use mathlib.Core.Bool.{true, false, ◌&&◌}
+use mathlib.Core.Path.{◌≡◌, refl, sym, ap}
+use mathlib.Core.Bool.{true, ◌&&◌}
 use mathlib.Core.List.{List, [], ◌∷◌}
 use Prim.Native.Nat.{ℕ, zero, suc, ◌+◌, ◌-◌, ◌*◌, ◌^◌, ◌≤◌, ◌<◌}
 use lib.ListN.{length, get_or, drop}
 use lib.Seq.{drop-drop}
 use lib.Dec.{leb, ltb}
-use borrow.Author.Tests.{le-ltb, lt-ltb, le-leb, lt-leb, leb-true, ltb-true}
+use borrow.Author.Tests.{lt-ltb, le-leb, leb-true, ltb-true}
+use Rattle.std.specs.List.{list_all}
+use Rattle.std.proofs.lemmas.List.Recursion.{same_from_clauses}
 use Rattle.lay.proofs.Tests.{and_0, and_1}
 use Rattle.text.proofs.Cuts.{drop_more, drop_end}
 use Rattle.spell.specs.Digits.{is_digit, all_digits, digits_up_to, place_of, places}
 
 -- ---- all are digits
 
-module _ (base : ℕ) (s : List ℕ) (i : ℕ) (h : i < length s) where
-  pub digits_more : is_digit base (get_or s i 0) ≡ true → all_digits base (drop (i + 1) s) ≡ all_digits base (drop i s)
-  unfolding all_digits
-  digits_more e = rw (drop_more s i h, e)
-
-  pub digits_not : is_digit base (get_or s i 0) ≡ false → all_digits base (drop i s) ≡ false
-  unfolding all_digits
-  digits_not e = rw (drop_more s i h, e)
-
-pub digits_end : (base : ℕ) (s : List ℕ) (i : ℕ) → length s ≤ i → all_digits base (drop i s) ≡ true
+pub all_is : (base : ℕ) (s : List ℕ) → all_digits base s ≡ list_all (is_digit base) s
 unfolding all_digits
-digits_end base s i h = rw (drop_end s i h)
+all_is base s = same_from_clauses (all_digits base) (list_all (is_digit base)) (λ b t. is_digit base b && t) refl (λ x xs. refl) (λ x xs. refl) s
 
 pub digit_at : (base : ℕ) (s : List ℕ) (i : ℕ) → i < length s → all_digits base s ≡ true → (48 ≤ get_or s i 0) × (get_or s i 0 < 48 + base)
 unfolding all_digits
@@ -40,14 +33,6 @@ digit_at base (b ∷ s) (suc i) h e = digit_at base s i (omega arith) (and_1 (is
 -- ---- 1 to n digits, by the tests that the code makes
 
 module _ (base n : ℕ) (s : List ℕ) where
-  pub up_empty : length s ≡ 0 → false ≡ digits_up_to base n s
-  unfolding digits_up_to
-  up_empty h = simp (le-ltb 0 (length s) (omega arith))
-
-  pub up_long : n < length s → false ≡ digits_up_to base n s
-  unfolding digits_up_to
-  up_long h = simp (lt-ltb 0 (length s) (omega arith), lt-leb _ _ h)
-
   pub up_all : 0 < length s → length s ≤ n → digits_up_to base n s ≡ all_digits base s
   unfolding digits_up_to
   up_all k h = simp (lt-ltb 0 (length s) k, le-leb _ _ h)

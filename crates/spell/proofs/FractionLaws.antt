@@ -9,6 +9,7 @@ use lib.ListN.{length}
 use lib.Seq.{take_all}
 use lib.Dec.{eqb, leb}
 use borrow.Author.Tests.{ltb-false, eqb-false}
+use Rattle.std.specs.Option.{is_some, unwrap_or}
 use Rattle.lay.proofs.Tests.{and_0, and_1}
 use Rattle.text.specs.Blanks.{space}
 use Rattle.text.specs.Parts.{index_of, up_to, past, holds}
@@ -49,13 +50,13 @@ pub not_bad : (x : Fraction) → bad_fraction x ≡ false → 0 < x.below
 unfolding bad_fraction
 not_bad x e = go (eqb x.below 0) refl e
   where
-    go : (t : Bool) → eqb x.below 0 ≡ t → t || (x.mixed && (eqb x.above 0 || leb x.below x.above)) ≡ false → 0 < x.below
-    go true p q = let o : ◌≡◌ {A = ℕ} 0 1 = cc in absurd (omega arith)
+    go : (t : Bool) → eqb x.below 0 ≡ t → t || (is_some x.whole && (eqb x.above 0 || leb x.below x.above)) ≡ false → 0 < x.below
+    go true p q = absurd (cc)
     go false p q = let k = eqb-false x.below 0 p in omega arith
 
 -- the products that the code makes
-pub whole_small : (x : Fraction) → Small x → x.whole * x.below ≤ 1000000000000
-whole_small x s = mul-le-mul {n₁ = x.whole} {m₁ = x.below} {n₂ = 1000000} {m₂ = 1000000} (omega (arith, s.whole)) (omega (arith, s.below))
+pub whole_small : (x : Fraction) → Small x → unwrap_or x.whole 0 * x.below ≤ 1000000000000
+whole_small x s = mul-le-mul {n₁ = unwrap_or x.whole 0} {m₁ = x.below} {n₂ = 1000000} {m₂ = 1000000} (omega (arith, s.whole)) (omega (arith, s.below))
 
 -- the left side, as the code holds it
 pub left_marked : (f left : List ℕ) → left ≡ up_to slash f → is_fraction f ≡ true → is_marked space 6 6 left ≡ true

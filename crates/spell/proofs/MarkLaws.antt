@@ -14,10 +14,7 @@ use Rattle.spell.proofs.DigitLaws.{up_some, up_few, up_digits, ten_six}
 
 or_right : (a b : Bool) → a ≡ true → not a || b ≡ true → b ≡ true
 or_right true b e h = h
-or_right false b e h = absurd (ff e)
-  where
-    ff : false ≡ true → ⊥
-    ff p = let o : ◌≡◌ {A = ℕ} 0 1 = cc in omega arith
+or_right false b e h = absurd (cc)
 
 -- more digits may be allowed
 up_more : (base n m : ℕ) (l : List ℕ) → n ≤ m → digits_up_to base n l ≡ true → digits_up_to base m l ≡ true

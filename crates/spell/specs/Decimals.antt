@@ -3,12 +3,10 @@
 use Rattle.std.specs.Prelude.{ℕ, ◌+◌, ◌*◌, List, [], ◌∷◌, Bool, not, ◌||◌}
 use Rattle.text.specs.Blanks.{is_empty}
 use Rattle.text.specs.Parts.{up_to, past}
-use Rattle.text.specs.Refusals.{when, first}
-use Rattle.text.specs.declared.refusal.Judged.{Judged}
+use Rattle.text.specs.Refusals.{Judged, when, first, says}
 use Rattle.text.specs.declared.refusal.Refusal.TheVariants.{FieldEmpty, Misspelt}
 use Rattle.spell.specs.Digits.{number, places, is_marked}
-use Rattle.spell.specs.Answers.{says_number}
-use Rattle.spell.specs.declared.answers.Number.{Number}
+use Rattle.spell.specs.Answers.{Number}
 
 abbrev pub point : ℕ
 point = 46
@@ -28,7 +26,7 @@ unfoldable pub decimal_judged : ℕ → List ℕ → Judged
 decimal_judged n f = first (when (is_empty f) FieldEmpty ∷ when (not (is_decimal n f)) Misspelt ∷ [])
 
 unfoldable pub decimal_of : ℕ → List ℕ → Number
-decimal_of n f = says_number (decimal_judged n f) (millionths f)
+decimal_of n f = says (decimal_judged n f) (millionths f)
 
 unfoldable pub delay_judged : List ℕ → Judged
 delay_judged f = first (when (not (is_empty f || is_decimal 6 f)) Misspelt ∷ [])

@@ -1,14 +1,11 @@
 -- "Integer: 1 to 6 digits; an identifier's value 1 to 10." "Label: 1 to 3 octal digits." "For a number or Boolean: 8, 6, 11,
 -- 13"; an overlap's 10 is gone (02, request 3). "In a component line 11 is only for 0 or a above b; all that is too high is 13."
-use Rattle.std.specs.Prelude.{ℕ, List, [], ◌∷◌, cond, not, ◌&&◌, leb, ltb}
+use Rattle.std.specs.Prelude.{ℕ, List, [], ◌∷◌, cond, not, ◌&&◌, leb, ltb, Ok}
 use Rattle.text.specs.Blanks.{is_empty}
-use Rattle.text.specs.Refusals.{when, first}
-use Rattle.text.specs.declared.refusal.Judged.{Judged}
+use Rattle.text.specs.Refusals.{Judged, when, first, says}
 use Rattle.text.specs.declared.refusal.Refusal.TheVariants.{FieldEmpty, Misspelt, OutsideLimit, BeyondDeclared}
 use Rattle.spell.specs.Digits.{digits_up_to, number}
-use Rattle.spell.specs.Answers.{says_number}
-use Rattle.spell.specs.declared.answers.Number.{Number}
-use Rattle.spell.specs.declared.answers.Number.TheVariants.{Value}
+use Rattle.spell.specs.Answers.{Number}
 
 -- 1 to n digits, the number from least to most
 unfoldable pub integer_judged : ℕ → ℕ → ℕ → List ℕ → Judged
@@ -20,7 +17,7 @@ integer_judged n least most f =
     ∷ [])
 
 unfoldable pub integer_of : ℕ → ℕ → ℕ → List ℕ → Number
-integer_of n least most f = says_number (integer_judged n least most f) (number 10 f)
+integer_of n least most f = says (integer_judged n least most f) (number 10 f)
 
 -- six digits at most, so at most 999999
 abbrev pub most_of_six : ℕ
@@ -31,11 +28,11 @@ unfoldable pub declared_judged : ℕ → List ℕ → Judged
 declared_judged count f = first (integer_judged 6 1 most_of_six f ∷ when (ltb count (number 10 f)) BeyondDeclared ∷ [])
 
 unfoldable pub declared_of : ℕ → List ℕ → Number
-declared_of count f = says_number (declared_judged count f) (number 10 f)
+declared_of count f = says (declared_judged count f) (number 10 f)
 
 -- "Leading and trailing may be empty"; an empty one says the number that stands for unknown
 unfoldable pub margin_of : ℕ → ℕ → List ℕ → Number
-margin_of most blank f = cond (is_empty f) (Value blank) (integer_of 6 0 most f)
+margin_of most blank f = cond (is_empty f) (Ok blank) (integer_of 6 0 most f)
 
 -- "label 377 octal"
 abbrev pub highest_label : ℕ
@@ -50,4 +47,4 @@ label_judged f =
     ∷ [])
 
 unfoldable pub label_of : List ℕ → Number
-label_of f = says_number (label_judged f) (number 8 f)
+label_of f = says (label_judged f) (number 8 f)

@@ -6,8 +6,7 @@ use Rattle.lay.specs.Bytes.{same}
 use Rattle.lay.specs.Quoted.{quoted}
 use Rattle.text.specs.Blanks.{tab, is_empty}
 use Rattle.text.specs.Parts.{holds}
-use Rattle.text.specs.Refusals.{when, first}
-use Rattle.text.specs.declared.refusal.Judged.{Judged}
+use Rattle.text.specs.Refusals.{Judged, when, first}
 use Rattle.text.specs.declared.refusal.Refusal.TheVariants.{TextTooLong, FieldEmpty, Misspelt, OtherVersion, NotCarried}
 
 abbrev pub longest_text : ℕ

@@ -3,11 +3,9 @@ use Rattle.std.specs.Prelude.{ℕ, List, [], ◌∷◌, Bool, not, ◌||◌}
 use Rattle.lay.specs.Bytes.{same}
 use Rattle.lay.specs.Quoted.{quoted}
 use Rattle.text.specs.Blanks.{is_empty}
-use Rattle.text.specs.Refusals.{when, first}
-use Rattle.text.specs.declared.refusal.Judged.{Judged}
+use Rattle.text.specs.Refusals.{Judged, when, first, says}
 use Rattle.text.specs.declared.refusal.Refusal.TheVariants.{FieldEmpty, Misspelt}
-use Rattle.spell.specs.Answers.{says_truth}
-use Rattle.spell.specs.declared.answers.Truth.{Truth}
+use Rattle.spell.specs.Answers.{Truth}
 
 unfoldable pub says_true : List ℕ → Bool
 says_true f =
@@ -22,7 +20,7 @@ unfoldable pub truth_judged : List ℕ → Judged
 truth_judged f = first (when (is_empty f) FieldEmpty ∷ when (not (says_true f || says_false f)) Misspelt ∷ [])
 
 unfoldable pub truth_of : List ℕ → Truth
-truth_of f = says_truth (truth_judged f) (says_true f)
+truth_of f = says (truth_judged f) (says_true f)
 
 -- "Boolean or empty"
 unfoldable pub truth_or_empty_judged : List ℕ → Judged

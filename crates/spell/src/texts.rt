@@ -1,55 +1,47 @@
 // Text, the version, and a field that must be empty.
-ghost use Rattle.std.specs.Prelude.{◌≡◌, ◌&&◌};
-ghost use Rattle.text.specs.Blanks.{is_empty};
+ghost use Rattle.std.specs.Prelude.{◌≡◌};
 ghost use Rattle.spell.specs.Texts.{text_judged, version_judged, empty_judged};
 
 use lay::same_text;
 use text::part::holds;
-use text::refusal::{Judged, Refusal};
-
-fn lacking(f: &[u8], mandatory: bool) -> bool
-    ensures { result ≡ (mandatory && is_empty f.now) }
-{
-    mandatory && f.len() == 0
-}
+use text::refusal::Refusal;
 
 // 7, 8, 6. The field is trimmed.
-pub fn text_field(f: &[u8], most: usize, mandatory: bool) -> Judged
+#[tactic(auto, unfolding(crate::specs::Texts::text_judged, text::specs::Refusals::first))]
+pub fn text_field(f: &[u8], most: usize, mandatory: bool) -> Result<(), Refusal>
     ensures { result ≡ text_judged most mandatory f.now }
 {
     if most < f.len() {
-        return Judged::Refused(Refusal::TextTooLong);
+        return Err(Refusal::TextTooLong);
     }
-    if lacking(f, mandatory) {
-        return Judged::Refused(Refusal::FieldEmpty);
+    if mandatory && f.is_empty() {
+        return Err(Refusal::FieldEmpty);
     }
-    if holds(f, 9) {
-        return Judged::Refused(Refusal::Misspelt);
+    if holds(f, b'\t') {
+        return Err(Refusal::Misspelt);
     }
-    Judged::Passes
+    Ok(())
 }
 
 // 7, 8, 6, 9.
-pub fn version(f: &[u8]) -> Judged
+#[tactic(auto, unfolding(crate::specs::Texts::version_judged, text::specs::Refusals::first))]
+pub fn version(f: &[u8]) -> Result<(), Refusal>
     ensures { result ≡ version_judged f.now }
 {
-    match text_field(f, 200, true) {
-        Judged::Refused(r) => Judged::Refused(r),
-        Judged::Passes => {
-            if same_text(f, b"2.0") {
-                return Judged::Passes;
-            }
-            Judged::Refused(Refusal::OtherVersion)
-        }
+    text_field(f, 200, true)?;
+    if !same_text(f, b"2.0") {
+        return Err(Refusal::OtherVersion);
     }
+    Ok(())
 }
 
 // Only 10.
-pub fn must_be_empty(f: &[u8]) -> Judged
+#[tactic(auto, unfolding(crate::specs::Texts::empty_judged, text::specs::Refusals::first))]
+pub fn must_be_empty(f: &[u8]) -> Result<(), Refusal>
     ensures { result ≡ empty_judged f.now }
 {
-    if f.len() == 0 {
-        return Judged::Passes;
+    if !f.is_empty() {
+        return Err(Refusal::NotCarried);
     }
-    Judged::Refused(Refusal::NotCarried)
+    Ok(())
 }

@@ -3,28 +3,23 @@ ghost use Rattle.std.specs.Prelude.{◌≡◌, ◌||◌};
 ghost use Rattle.lay.specs.Bytes.{same};
 ghost use Rattle.spell.specs.Truths.{says_true, says_false, truth_of, truth_or_empty_judged};
 
-use crate::answers::Truth;
 use lay::same_text;
-use text::refusal::{Judged, Refusal};
+use text::refusal::Refusal;
 
 fn one_of(f: &[u8], x: &[u8], y: &[u8], z: &[u8]) -> bool
     ensures { result ≡ (same f.now x.now || (same f.now y.now || same f.now z.now)) }
 {
-    if same_text(f, x) {
-        return true;
-    }
-    if same_text(f, y) {
-        return true;
-    }
-    same_text(f, z)
+    same_text(f, x) || same_text(f, y) || same_text(f, z)
 }
 
+#[tactic(auto, unfolding(crate::specs::Truths::says_true))]
 pub fn says_true(f: &[u8]) -> bool
     ensures { result ≡ says_true f.now }
 {
     one_of(f, b"True", b"true", b"TRUE")
 }
 
+#[tactic(auto, unfolding(crate::specs::Truths::says_false))]
 fn says_false(f: &[u8]) -> bool
     ensures { result ≡ says_false f.now }
 {
@@ -32,33 +27,29 @@ fn says_false(f: &[u8]) -> bool
 }
 
 // 8, 6.
-pub fn truth(f: &[u8]) -> Truth
+#[tactic(auto, unfolding(crate::specs::Truths::truth_of, crate::specs::Truths::truth_judged, text::specs::Refusals::first))]
+pub fn truth(f: &[u8]) -> Result<bool, Refusal>
     ensures { result ≡ truth_of f.now }
 {
-    if f.len() == 0 {
-        return Truth::Refused(Refusal::FieldEmpty);
+    if f.is_empty() {
+        return Err(Refusal::FieldEmpty);
     }
     if says_true(f) {
-        return Truth::Says(true);
+        return Ok(true);
     }
     if says_false(f) {
-        return Truth::Says(false);
+        return Ok(false);
     }
-    Truth::Refused(Refusal::Misspelt)
+    Err(Refusal::Misspelt)
 }
 
 // Only 6: an empty field passes.
-pub fn truth_or_empty(f: &[u8]) -> Judged
+#[tactic(auto, unfolding(crate::specs::Truths::truth_or_empty_judged, text::specs::Refusals::first))]
+pub fn truth_or_empty(f: &[u8]) -> Result<(), Refusal>
     ensures { result ≡ truth_or_empty_judged f.now }
 {
-    if f.len() == 0 {
-        return Judged::Passes;
+    if f.is_empty() || says_true(f) || says_false(f) {
+        return Ok(());
     }
-    if says_true(f) {
-        return Judged::Passes;
-    }
-    if says_false(f) {
-        return Judged::Passes;
-    }
-    Judged::Refused(Refusal::Misspelt)
+    Err(Refusal::Misspelt)
 }

@@ -8,12 +8,12 @@ use mathlib.Core.List.{List, []}
 use Prim.Native.Nat.{ℕ, ◌+◌, ◌*◌}
 use borrow.Author.Tests.{not-false}
 use Rattle.text.specs.Parts.{up_to, past}
-use Rattle.text.specs.declared.refusal.Judged.TheVariants.{Passes}
+use Rattle.std.specs.Prelude.{Ok}
 use Rattle.spell.specs.Digits.{place_of, places, number}
 use Rattle.spell.specs.Decimals.{point, million, is_decimal, millionths, decimal_judged, decimal_of, delay_judged}
-use Rattle.spell.specs.declared.answers.Number.TheVariants.{Value}
 use Rattle.written.specs.Words.{Numeral, Marked, IsDecimal}
-use Rattle.written.proofs.Passing.{first_all, all_first, when_false, false_when, number_says, says_number_lem}
+use Rattle.text.proofs.Order.{says_ok, ok_says}
+use Rattle.written.proofs.Passing.{first_all, all_first, when_false, false_when}
 use Rattle.written.proofs.Marks.{without_past}
 use Rattle.written.proofs.MarkedNumerals.{Cases, test_cases, alone_left, alone_test, marked_left, marked_right, marked_test}
 use Rattle.written.proofs.Numerals.{numeral_without}
@@ -46,22 +46,22 @@ decimal_test n f v (inl w) = (alone_test point n (omega arith) w.digits 6, w.val
 decimal_test n f v (inr p) =
     (marked_test point n 6 (omega arith) p.digits, p.value ∙ sym (pointed_millionths n f p.before p.after p.digits))
 
-pub decimal_exactly : (n : ℕ) (f : List ℕ) (v : ℕ) → (decimal_of n f ≡ Value v) ↔ IsDecimal n f v
+pub decimal_exactly : (n : ℕ) (f : List ℕ) (v : ℕ) → (decimal_of n f ≡ Ok v) ↔ IsDecimal n f v
 unfolding decimal_of decimal_judged
 decimal_exactly n f v = (
   λ e.
-      let s = number_says (decimal_judged n f) (millionths f) v e in
+      let s = says_ok (decimal_judged n f) (millionths f) v e in
       let p = first_all _ s.0 in
       subst (λ (k : ℕ). IsDecimal n f k) (sym s.1) (test_decimal n f (not-false _ (when_false _ _ p.1.0))),
   λ d.
       let t = decimal_test n f v d in
-      says_number_lem (decimal_judged n f) (millionths f) v
+      ok_says (decimal_judged n f) (millionths f) v
       (all_first _ (false_when _ _ (marked_some point n 6 f t.0), (false_when _ _ (ap not t.0), tt)))
       t.1,
 )
 
 -- empty, or a decimal with up to 6 digits before the point
-pub delay_exactly : (f : List ℕ) → (delay_judged f ≡ Passes) ↔ ((f ≡ []) ⊎ ((v : ℕ) × IsDecimal 6 f v))
+pub delay_exactly : (f : List ℕ) → (delay_judged f ≡ Ok tt) ↔ ((f ≡ []) ⊎ ((v : ℕ) × IsDecimal 6 f v))
 unfolding delay_judged
 delay_exactly f = (
   λ e.

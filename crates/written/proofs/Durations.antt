@@ -8,14 +8,12 @@ use Prim.Native.Nat.{ℕ, ◌≤◌}
 use lib.Dec.{leb, eqb}
 use borrow.Author.Tests.{not-false, leb-false, lt-leb}
 use Rattle.lay.proofs.Tests.{and_0, and_1, and_both}
-use Rattle.ratio.specs.Ratio.{lowest_terms}
 use Rattle.text.specs.Blanks.{space, is_empty}
 use Rattle.text.specs.Parts.{up_to, past, holds}
-use Rattle.text.specs.declared.refusal.Judged.TheVariants.{Passes}
+use Rattle.std.specs.Prelude.{Ok}
 use Rattle.spell.specs.Digits.{digits_up_to, number, is_marked}
 use Rattle.spell.specs.Decimals.{point}
 use Rattle.spell.specs.Durations.{slash, is_fraction, is_seconds, fraction_of, bad_fraction, top_of, bottom_of, seconds_judged, seconds_of}
-use Rattle.spell.specs.declared.answers.Seconds.TheVariants.{Value}
 use Rattle.written.specs.Words.{Numeral, Marked, Without, IsDecimal, IsDecimalSeconds, IsFraction, IsMixed, IsSeconds, SaysSeconds}
 use Rattle.written.proofs.Tests.{neither, not_zero, zero_not}
 use Rattle.written.proofs.Passing.{first_all, all_first, when_false, false_when, seconds_says, says_seconds_lem}
@@ -84,7 +82,7 @@ module _ (f : List ℕ) where
             omega (arith, mixed_bottom f s c.0, not_zero (number 10 y) n.0),
           )
 
-  pub seconds_passed : seconds_judged f ≡ Passes → IsSeconds f (top_of f) (bottom_of f) × (1 ≤ top_of f) × (1 ≤ bottom_of f)
+  pub seconds_passed : seconds_judged f ≡ Ok tt → IsSeconds f (top_of f) (bottom_of f) × (1 ≤ top_of f) × (1 ≤ bottom_of f)
   unfolding seconds_judged
   seconds_passed e =
       let p = first_all _ e in
@@ -177,7 +175,7 @@ module _ (f : List ℕ) (top bottom : ℕ) (positive : 1 ≤ bottom) where
   see (inr (inl r)) = see_fraction r
   see (inr (inr r)) = see_mixed r
 
-  seconds_passes : IsSeconds f top bottom → 1 ≤ top → (seconds_judged f ≡ Passes) × (top ≡ top_of f) × (bottom ≡ bottom_of f)
+  seconds_passes : IsSeconds f top bottom → 1 ≤ top → (seconds_judged f ≡ Ok tt) × (top ≡ top_of f) × (bottom ≡ bottom_of f)
   unfolding seconds_judged
   seconds_passes w h =
       let v = see w in
@@ -187,11 +185,11 @@ module _ (f : List ℕ) (top bottom : ℕ) (positive : 1 ≤ bottom) where
         v.denominator,
       )
 
-pub seconds_exactly : (f : List ℕ) (n d : ℕ) → (seconds_of f ≡ Value n d) ↔ SaysSeconds f n d
+pub seconds_exactly : (f : List ℕ) (n d : ℕ) → (seconds_of f ≡ Ok (record { numerator = n; denominator = d })) ↔ SaysSeconds f n d
 unfolding seconds_of
 seconds_exactly f n d = (
   λ e.
-      let s = seconds_says (seconds_judged f) (lowest_terms (top_of f) (bottom_of f)).numerator (lowest_terms (top_of f) (bottom_of f)).denominator n d e in
+      let s = seconds_says (seconds_judged f) _ n d e in
       let p = seconds_passed f s.0 in
       record {
         top = top_of f;
@@ -204,7 +202,7 @@ seconds_exactly f n d = (
   λ r.
       let p = seconds_passes f r.top r.bottom r.divided r.written r.positive in
       let l = (lowest_exactly r.top r.bottom n d r.divided).1 r.lowest in
-      says_seconds_lem (seconds_judged f) (lowest_terms (top_of f) (bottom_of f)).numerator (lowest_terms (top_of f) (bottom_of f)).denominator n d
+      says_seconds_lem (seconds_judged f) _ n d
       p.0
       (rw (← p.1, ← p.2) l.0)
       (rw (← p.1, ← p.2) l.1),

@@ -3,7 +3,9 @@ use mathlib.Core.Path.{◌≡◌, sym, ◌∙◌}
 use mathlib.Core.Bool.{Bool}
 use mathlib.Core.List.{List}
 use Prim.Native.Nat.{ℕ}
+use Rattle.spell.specs.Durations.{seconds_judged, seconds_of}
 use Rattle.written.specs.Words.{IsInteger, IsOctal, IsDecimal, IsRange, IsTruth, SaysSeconds}
+use Rattle.written.proofs.Passing.{seconds_says}
 use Rattle.written.proofs.Decimals.{decimal_test}
 use Rattle.written.proofs.BitRanges.{range_test}
 use Rattle.written.proofs.Durations.{seconds_exactly}
@@ -29,7 +31,8 @@ module _ (f : List ℕ) where
   one_truth b c p q = (truth_test f b p).1 ∙ sym (truth_test f c q).1
 
   pub one_seconds : (n d m e : ℕ) → SaysSeconds f n d → SaysSeconds f m e → (n ≡ m) × (d ≡ e)
+  unfolding seconds_of
   one_seconds n d m e p q =
-      let s = (seconds_exactly f n d).1 p in
-      let t = (seconds_exactly f m e).1 q in
-      (cc, cc)
+      let s = seconds_says (seconds_judged f) _ n d ((seconds_exactly f n d).1 p) in
+      let t = seconds_says (seconds_judged f) _ m e ((seconds_exactly f m e).1 q) in
+      (s.1 ∙ sym t.1, s.2 ∙ sym t.2)

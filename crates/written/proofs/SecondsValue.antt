@@ -12,7 +12,7 @@ use Rattle.model.specs.Forms.{sheet_limits}
 use Rattle.spell.specs.Digits.{number}
 use Rattle.spell.specs.Decimals.{million}
 use Rattle.spell.specs.Durations.{top_of, bottom_of, seconds_judged, seconds_of}
-use Rattle.spell.specs.declared.answers.Seconds.TheVariants.{Value}
+use Rattle.std.specs.Prelude.{Ok}
 use Rattle.written.specs.Values.{StoredSeconds}
 use Rattle.written.specs.Words.{IsDecimal, IsSeconds, SaysSeconds}
 use Rattle.written.proofs.Passing.{seconds_says}
@@ -57,10 +57,10 @@ stored f top bottom w a b =
     }
 
 -- of what is read
-pub seconds_value : (f : List ℕ) (n d : ℕ) → seconds_of f ≡ Value n d → StoredSeconds (top_of f) (bottom_of f) n d
+pub seconds_value : (f : List ℕ) (n d : ℕ) → seconds_of f ≡ Ok (record { numerator = n; denominator = d }) → StoredSeconds (top_of f) (bottom_of f) n d
 unfolding seconds_of
 seconds_value f n d e =
-    let s = seconds_says (seconds_judged f) (lowest_terms (top_of f) (bottom_of f)).numerator (lowest_terms (top_of f) (bottom_of f)).denominator n d e in
+    let s = seconds_says (seconds_judged f) _ n d e in
     let p = seconds_passed f s.0 in
     rw (s.1, s.2) (stored f (top_of f) (bottom_of f) p.0 p.1 p.2)
 

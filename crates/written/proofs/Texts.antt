@@ -1,5 +1,4 @@
 -- What a text, the version and an empty field take, exactly. Assumes nothing.
-use native.Mathlib.Omega.{arith}
 use mathlib.Core.Path.{◌≡◌, refl, ap}
 use mathlib.Core.Logic.{◌↔◌}
 use mathlib.Core.Bool.{Bool, true, false, not, ◌&&◌}
@@ -11,7 +10,7 @@ use Rattle.lay.proofs.Bytes.{same_eq, same_made}
 use Rattle.text.specs.Blanks.{tab, is_empty}
 use Rattle.text.specs.Parts.{holds, index_of}
 use Rattle.text.specs.Refusals.{first}
-use Rattle.text.specs.declared.refusal.Judged.TheVariants.{Passes}
+use Rattle.std.specs.Prelude.{Ok}
 use Rattle.spell.specs.Texts.{longest_text, text_judged, version, version_judged, empty_judged}
 use Rattle.written.specs.Words.{IsText}
 use Rattle.written.proofs.Tests.{not_zero, zero_not}
@@ -23,13 +22,13 @@ use Rattle.written.proofs.Empty.{empty_nil, nil_empty}
 
 some_of : (m : Bool) (f : List ℕ) → (m && is_empty f) ≡ false → m ≡ true → 1 ≤ length f
 some_of true f e h = not_zero (length f) e
-some_of false f e h = absurd (let z : ◌≡◌ {A = ℕ} 0 1 = cc in omega arith)
+some_of false f e h = absurd (cc)
 
 of_some : (m : Bool) (f : List ℕ) → (m ≡ true → 1 ≤ length f) → (m && is_empty f) ≡ false
 of_some true f h = zero_not (length f) (h refl)
 of_some false f h = refl
 
-pub text_exactly : (most : ℕ) (mandatory : Bool) (f : List ℕ) → (text_judged most mandatory f ≡ Passes) ↔ (IsText most f × (mandatory ≡ true → 1 ≤ length f))
+pub text_exactly : (most : ℕ) (mandatory : Bool) (f : List ℕ) → (text_judged most mandatory f ≡ Ok tt) ↔ (IsText most f × (mandatory ≡ true → 1 ≤ length f))
 unfolding text_judged
 text_exactly most mandatory f = (
   λ e.
@@ -47,11 +46,11 @@ text_exactly most mandatory f = (
 
 -- ---- the version is one text
 
-version_text : text_judged longest_text true version ≡ Passes
+version_text : text_judged longest_text true version ≡ Ok tt
 unfolding text_judged first holds index_of
 version_text = refl
 
-pub version_exactly : (f : List ℕ) → (version_judged f ≡ Passes) ↔ (f ≡ version)
+pub version_exactly : (f : List ℕ) → (version_judged f ≡ Ok tt) ↔ (f ≡ version)
 unfolding version_judged
 version_exactly f = (
   λ e. same_eq f version (not-false _ (when_false _ _ (first_all _ e).1.0)),
@@ -60,7 +59,7 @@ version_exactly f = (
 
 -- ---- empty is empty
 
-pub empty_exactly : (f : List ℕ) → (empty_judged f ≡ Passes) ↔ (f ≡ [])
+pub empty_exactly : (f : List ℕ) → (empty_judged f ≡ Ok tt) ↔ (f ≡ [])
 unfolding empty_judged
 empty_exactly f = (
   λ e. empty_nil f (not-false _ (when_false _ _ (first_all _ e).0)),

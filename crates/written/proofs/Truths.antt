@@ -9,11 +9,11 @@ use Rattle.lay.specs.Bytes.{same}
 use Rattle.lay.proofs.Bytes.{same_eq}
 use Rattle.lay.proofs.Tests.{or_either}
 use Rattle.text.specs.Blanks.{is_empty}
-use Rattle.text.specs.declared.refusal.Judged.TheVariants.{Passes}
+use Rattle.std.specs.Prelude.{Ok}
 use Rattle.spell.specs.Truths.{says_true, says_false, truth_judged, truth_of, truth_or_empty_judged}
-use Rattle.spell.specs.declared.answers.Truth.TheVariants.{Says}
 use Rattle.written.specs.Words.{IsTrue, IsFalse, IsTruth}
-use Rattle.written.proofs.Passing.{first_all, all_first, when_false, false_when, truth_says, says_truth_lem}
+use Rattle.text.proofs.Order.{says_ok, ok_says}
+use Rattle.written.proofs.Passing.{first_all, all_first, when_false, false_when}
 use Rattle.written.proofs.Empty.{or_empty, empty_or}
 
 -- ---- three words each
@@ -67,19 +67,19 @@ pub truth_test : (f : List ℕ) (b : Bool) → IsTruth f b → ((says_true f || 
 truth_test f true w = let p = true_test f w in (rw p, sym p, some_truth f (inl w))
 truth_test f false w = let p = false_test f w in (rw (p.0, p.1), sym p.0, some_truth f (inr w))
 
-pub truth_exactly : (f : List ℕ) (b : Bool) → (truth_of f ≡ Says b) ↔ IsTruth f b
+pub truth_exactly : (f : List ℕ) (b : Bool) → (truth_of f ≡ Ok b) ↔ IsTruth f b
 unfolding truth_of truth_judged
 truth_exactly f b = (
   λ e.
-      let s = truth_says (truth_judged f) (says_true f) b e in
+      let s = says_ok (truth_judged f) (says_true f) b e in
       let p = first_all _ s.0 in
       rw s.1 (test_truth f (not-false _ (when_false _ _ p.1.0))),
   λ w.
       let t = truth_test f b w in
-      says_truth_lem (truth_judged f) (says_true f) b (all_first _ (false_when _ _ t.2, (false_when _ _ (ap not t.0), tt))) t.1,
+      ok_says (truth_judged f) (says_true f) b (all_first _ (false_when _ _ t.2, (false_when _ _ (ap not t.0), tt))) t.1,
 )
 
-pub truth_or_empty_exactly : (f : List ℕ) → (truth_or_empty_judged f ≡ Passes) ↔ ((f ≡ []) ⊎ ((b : Bool) × IsTruth f b))
+pub truth_or_empty_exactly : (f : List ℕ) → (truth_or_empty_judged f ≡ Ok tt) ↔ ((f ≡ []) ⊎ ((b : Bool) × IsTruth f b))
 unfolding truth_or_empty_judged
 truth_or_empty_exactly f = (
   λ e.

@@ -1,20 +1,11 @@
-use mathlib.Core.Path.{refl, sym, ◌∙◌}
-use Rattle.lines.proofs.CleanBytes.{clean_more, clean_not, clean_end}
+use mathlib.Core.Path.{sym, ◌∙◌}
+use borrow.Author.Tests.{tests}
 use borrow.Author.Rules.{rules}
+use Rattle.std.proofs.lemmas.Iterator.{YieldsList-from_slice}
+use Rattle.std.proofs.lemmas.Iterator.Search.{all_from_yields_List}
+use Rattle.lines.specs.Line.{is_clean}
+use Rattle.lines.proofs.CleanBytes.{all_is}
 use Rattle.lines.proofs.all_clean.Goals as goal
 
-pub loop-i-init : goal.loop-i-init
-loop-i-init c = (search rules, refl)
-
-pub returns-then-not-clean : goal.returns-then-not-clean
-returns-then-not-clean c =
-    let l = c in
-    sym (clean_not _ _ l.loop-i-test.true (sym c.clean.ensures ∙ c.if-not-clean.true)) ∙ l.loop-i.invariant.1
-
-pub loop-i-preserved : goal.loop-i-preserved
-loop-i-preserved c =
-    let l = c in
-    (search rules, clean_more _ _ l.loop-i-test.true (sym c.clean.ensures ∙ c.if-not-clean.false) ∙ l.loop-i.invariant.1)
-
 pub returns : goal.returns
-returns c = sym (clean_end _ _ c.loop-i-test.false) ∙ c.loop-i.invariant.1
+returns c = all_from_yields_List is_clean _ _ _ c.all.ensures.ran (YieldsList-from_slice c.args.s.now cc) (λ x b q k. search (rules, tests)) ∙ sym (all_is _)

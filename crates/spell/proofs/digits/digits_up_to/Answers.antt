@@ -1,29 +1,15 @@
-use mathlib.Core.Path.{refl, sym, ◌∙◌}
-use Rattle.spell.proofs.DigitLaws as digits
+use mathlib.Core.Path.{sym, ◌∙◌}
+use native.Mathlib.Omega.{arith}
+use borrow.Author.Tests.{tests}
 use borrow.Author.Rules.{rules}
+use Rattle.std.proofs.lemmas.Bool.Decides.{nat_tests}
+use Rattle.std.proofs.lemmas.Iterator.{YieldsList-from_slice}
+use Rattle.std.proofs.lemmas.Iterator.Search.{all_from_yields_List}
+use Rattle.spell.specs.Digits.{is_digit}
+use Rattle.spell.proofs.DigitLaws.{up_all, all_is}
 use Rattle.spell.proofs.digits.digits_up_to.Goals as goal
 
-pub returns-then-s-eq0 : goal.returns-then-s-eq0
-returns-then-s-eq0 c = digits.up_empty _ _ _ c.if-s-eq0.true
-
-pub returns-then-n-s : goal.returns-then-n-s
-returns-then-n-s c = digits.up_long _ _ _ c.if-n-s.true
-
-pub loop-i-init : goal.loop-i-init
-loop-i-init c = (c.requires, search rules, search rules, search rules, refl)
-
-pub returns-then-not-digit : goal.returns-then-not-digit
-returns-then-not-digit c =
-    let l = c in
-    let v = l.loop-i.invariant in
-    sym (digits.up_all _ _ _ v.1 v.2 ∙ sym v.4 ∙ digits.digits_not _ _ _ l.loop-i-test.true (sym c.digit.ensures ∙ c.if-not-digit.true))
-
-pub loop-i-preserved : goal.loop-i-preserved
-loop-i-preserved c =
-    let l = c in
-    (l.loop-i.invariant.0, search rules, search rules, search rules, digits.digits_more _ _ _ l.loop-i-test.true (sym c.digit.ensures ∙ c.if-not-digit.false) ∙ l.loop-i.invariant.4)
-
-pub returns : goal.returns
-returns c =
-    let v = c.loop-i.invariant in
-    sym (digits.up_all _ _ _ v.1 v.2 ∙ sym v.4 ∙ digits.digits_end _ _ _ c.loop-i-test.false)
+pub returns-then-s-n : goal.returns-then-s-n
+returns-then-s-n c =
+    all_from_yields_List (is_digit c.args.base) _ _ _ c.all.ensures.ran (YieldsList-from_slice c.args.s.now cc) (λ x b q k. search (rules, tests))
+    ∙ sym (up_all c.args.base c.args.n c.args.s.now (grind (arith, nat_tests)) c.if-s-n.true.1 ∙ all_is _ _)

@@ -1,11 +1,10 @@
 use mathlib.Core.Path.{◌≡◌}
-use Prim.Native.Nat.{◌≤◌}
-use lib.ListN.{length, take}
+use lib.ListN.{length}
 use Rattle.text.specs.Blanks.{trim_end}
 use Rattle.text.proofs.blank.trim_end.Given as goal
 
-abbrev pub invariant-loop-n : goal.invariant-loop-n
-invariant-loop-n l = (l.n ≤ length l.s) × (trim_end (take l.n l.s) ≡ trim_end l.s)
+abbrev pub invariant-loop-left : goal.invariant-loop-left
+invariant-loop-left l = trim_end l.left ≡ trim_end l.s
 
-abbrev pub decreases-loop-n : goal.decreases-loop-n
-decreases-loop-n l = l.n
+abbrev pub decreases-loop-left : goal.decreases-loop-left
+decreases-loop-left l = length l.left

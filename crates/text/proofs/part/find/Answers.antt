@@ -1,21 +1,17 @@
-use borrow.Author.Rules.{rules}
 use native.Mathlib.Omega.{arith}
-use mathlib.Core.Path.{◌∙◌}
-use Rattle.text.proofs.Finds as fields
+use mathlib.Core.Path.{◌≡◌, ◌∙◌}
+use lib.Dec.{eqb}
+use Rattle.std.specs.List.{position}
+use Rattle.text.specs.Parts.{index_of}
+use borrow.Author.Tests.{tests}
+use borrow.Author.Rules.{rules}
+use Rattle.std.proofs.lemmas.Iterator.{YieldsList-from_slice}
+use Rattle.std.proofs.lemmas.Iterator.Search.{position_from_yields_List}
+use Rattle.text.proofs.Finds.{found_is, index_le}
 use Rattle.text.proofs.part.find.Goals as goal
 
-pub loop-i-init : goal.loop-i-init
-loop-i-init c = (search rules, omega arith)
-
-pub returns-then-s-i : goal.returns-then-s-i
-returns-then-s-i c =
-    let l = c in
-    (fields.find_here _ _ _ l.loop-i-test.true c.if-s-i.true ∙ l.loop-i.invariant.1, search rules)
-
-pub loop-i-preserved : goal.loop-i-preserved
-loop-i-preserved c =
-    let l = c in
-    (search rules, fields.find_more _ _ _ l.loop-i-test.true c.if-s-i.false ∙ l.loop-i.invariant.1)
-
 pub returns : goal.returns
-returns c = (fields.find_end _ _ _ c.loop-i-test.false ∙ c.loop-i.invariant.1, search rules)
+returns c =
+    let e : c.position.result ≡ position (λ x. eqb x c.args.b) c.args.s.now = position_from_yields_List (λ x. eqb x c.args.b) _ _ _ c.position.ensures.ran (YieldsList-from_slice c.args.s.now cc) (λ x b q k. search (rules, tests)) in
+    let i : c.unwrap_or.result ≡ index_of c.args.b c.args.s.now = c.unwrap_or.ensures ∙ found_is _ _ _ e in
+    (i, omega (arith, index_le c.args.b c.args.s.now))
