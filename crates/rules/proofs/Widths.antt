@@ -1,7 +1,8 @@
 -- A sample's width, or 0 where it is not lawful. Assumes nothing.
-use mathlib.Core.Path.{◌≡◌, refl, sym, ap}
+use mathlib.Core.Path.{◌≡◌, refl, sym, ap, ◌∙◌}
 use mathlib.Core.Bool.{Bool, true, false, cond}
 use mathlib.Core.List.{List}
+use Rattle.std.specs.Prelude.{Some, None}
 use Prim.Native.Nat.{ℕ, ◌+◌, ◌-◌, ◌≤◌, ◌<◌}
 use native.Mathlib.Omega.{arith}
 use Rattle.lay.proofs.Tests.{refuse}
@@ -13,7 +14,6 @@ use Rattle.model.specs.Stored.{first_component_in, component_count_in, home_in, 
 use Rattle.model.specs.View.{subframe_at, component_at, sample_at}
 use Rattle.model.specs.Meaning.{ComponentLaw, SampleLaw}
 use Rattle.model.proofs.Meanings.{sample_law, sample_made}
-use Rattle.model.proofs.Pieces.{width_some}
 use Rattle.model.proofs.Views.{subframes_view}
 use Rattle.rules.specs.Ruled.{subframes_of, SubframesLaw, components_ok, components_width, lawful_width}
 use Rattle.rules.proofs.Homes.{home_words, home_bits}
@@ -60,36 +60,36 @@ module _ (b : List ℕ) (j : ℕ) where
   unfolding width
   left_over k l = ap width (left_none b j k l)
 
-  pub components_none : (components_ok b j ≡ true → ⊥) → 0 ≡ components_width b j
+  pub components_none : (components_ok b j ≡ true → ⊥) → None ≡ components_width b j
   unfolding components_width
-  components_none n = ap (λ (t : Bool). cond t (width_of (subframes_of b) (sample_at b j)) 0) (refuse _ n)
+  components_none n = ap (λ (t : Bool). cond t (Some (width_of (subframes_of b) (sample_at b j))) None) (refuse _ n)
 
-  pub components_all_lem : components_ok b j ≡ true → components_width b j ≡ width_of (subframes_of b) (sample_at b j)
+  pub components_all_lem : components_ok b j ≡ true → components_width b j ≡ Some (width_of (subframes_of b) (sample_at b j))
   unfolding components_width
-  components_all_lem h = ap (λ (t : Bool). cond t (width_of (subframes_of b) (sample_at b j)) 0) h
+  components_all_lem h = ap (λ (t : Bool). cond t (Some (width_of (subframes_of b) (sample_at b j))) None) h
 
-  -- what a width that is not 0 tells
-  pub measured : (components_width b j ≡ 0 → ⊥) → (components_ok b j ≡ true) × (components_width b j ≡ width_of (subframes_of b) (sample_at b j))
+  -- what a width tells
+  pub measured : (w : ℕ) → components_width b j ≡ Some w → (components_ok b j ≡ true) × (w ≡ width_of (subframes_of b) (sample_at b j))
   unfolding components_width
-  measured n = go (components_ok b j) n
+  measured w e = go (components_ok b j) e
     where
-      go : (t : Bool) → (cond t (width_of (subframes_of b) (sample_at b j)) 0 ≡ 0 → ⊥) → (t ≡ true) × (cond t (width_of (subframes_of b) (sample_at b j)) 0 ≡ width_of (subframes_of b) (sample_at b j))
-      go true n = (refl, refl)
-      go false n = absurd (n refl)
+      go : (t : Bool) → cond t (Some (width_of (subframes_of b) (sample_at b j))) None ≡ Some w → (t ≡ true) × (w ≡ width_of (subframes_of b) (sample_at b j))
+      go true e = (refl, cc)
+      go false e = absurd (cc)
 
   -- ---- the sample's
 
-  pub unlawful : (SampleLaw (limits_in b) (subframes_of b) (sample_at b j) → ⊥) → 0 ≡ lawful_width b j
+  pub unlawful : (SampleLaw (limits_in b) (subframes_of b) (sample_at b j) → ⊥) → None ≡ lawful_width b j
   unfolding lawful_width
-  unlawful n = ap (λ (t : Bool). cond t (width_of (subframes_of b) (sample_at b j)) 0) (refuse _ (λ h. n (sample_law (limits_in b) (subframes_of b) (sample_at b j) h)))
+  unlawful n = ap (λ (t : Bool). cond t (Some (width_of (subframes_of b) (sample_at b j))) None) (refuse _ (λ h. n (sample_law (limits_in b) (subframes_of b) (sample_at b j) h)))
 
-  pub lawful_is : SampleLaw (limits_in b) (subframes_of b) (sample_at b j) → width_of (subframes_of b) (sample_at b j) ≡ lawful_width b j
+  pub lawful_is : SampleLaw (limits_in b) (subframes_of b) (sample_at b j) → Some (width_of (subframes_of b) (sample_at b j)) ≡ lawful_width b j
   unfolding lawful_width
-  lawful_is r = ap (λ (t : Bool). cond t (width_of (subframes_of b) (sample_at b j)) 0) (sym (sample_made (limits_in b) (subframes_of b) (sample_at b j) r))
+  lawful_is r = ap (λ (t : Bool). cond t (Some (width_of (subframes_of b) (sample_at b j))) None) (sym (sample_made (limits_in b) (subframes_of b) (sample_at b j) r))
 
-  -- a lawful sample's components have some width
-  pub some_width : Within (limits_in b) sheet_limits → SampleLaw (limits_in b) (subframes_of b) (sample_at b j) → components_width b j ≡ 0 → ⊥
-  some_width w r e =
-      let h = components_all_lem (passes b j w r) in
-      let s = width_some (subframes_of b) (sample_at b j) r.each r.some in
-      omega (arith, h, s, e)
+  -- a lawful sample's components have one
+  pub some_width : Within (limits_in b) sheet_limits → SampleLaw (limits_in b) (subframes_of b) (sample_at b j) → components_width b j ≡ None → ⊥
+  some_width w r e = no_width (sym (components_all_lem (passes b j w r)) ∙ e)
+    where
+      no_width : Some (width_of (subframes_of b) (sample_at b j)) ≡ None → ⊥
+      no_width e = cc

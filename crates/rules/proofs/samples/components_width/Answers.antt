@@ -1,6 +1,7 @@
 use mathlib.Core.Path.{◌≡◌, refl, sym, ap, subst, ◌∙◌}
 use mathlib.Core.Bool.{Bool, true, false, not}
 use mathlib.Core.List.{List}
+use Rattle.std.specs.Prelude.{Some}
 use Prim.Native.Nat.{ℕ, ◌+◌, ◌-◌, ◌≤◌, ◌<◌}
 use native.Mathlib.Omega.{arith}
 use borrow.Author.Tests.{not-false}
@@ -135,4 +136,4 @@ returns c =
     let full : c.loop-k.k ≡ component_count_in b j = omega (arith, v.counted, v.within, c.loop-k-test.false) in
     let z = left_over b j c.loop-k.k (omega (arith, full)) in
     let e : c.loop-k.width ≡ width_of (subframes_of b) (sample_at b j) = omega (arith, v.sums, z) in
-    e ∙ sym (components_all_lem b j (rw full at v.done))
+    ap Some e ∙ sym (components_all_lem b j (rw full at v.done))
