@@ -5,6 +5,8 @@ pub mod agree;
 pub mod card;
 pub mod hand;
 pub mod margins;
+pub mod rows;
 pub mod search;
 pub mod sieve;
+pub mod spanned;
 pub mod spans;
