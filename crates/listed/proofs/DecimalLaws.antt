@@ -69,14 +69,7 @@ unfolding decimal_text
 fewest_text zero n h f = absurd (omega (arith, f.0))
 fewest_text (suc k) n h f = fewest_in k 20 n f.1 (high k n f.2) (short_enough k n h (high k n f.2))
 
-fewest_short : (k n : ℕ) → n < 2 ^ 64 → IsDigitCount 10 1 n k → k ≤ 20
-fewest_short zero n h f = omega arith
-fewest_short (suc k) n h f = short_enough k n h (high k n f.2)
-
 module _ (n k : ℕ) (h : n < 2 ^ 64) (f : IsDigitCount 10 1 n k) where
-  pub decimal_room : k ≤ 20
-  decimal_room = fewest_short k n h f
-
   pub decimal_put : (out after d : List ℕ) (o : ℕ) → take k d ≡ last_digits 10 k n → after ≡ put out o (take k d) → (o + k ≡ o + length (decimal_text n)) × (after ≡ put out o (decimal_text n))
   decimal_put out after d o e p =
       let t = fewest_text k n h f in

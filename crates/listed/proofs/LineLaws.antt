@@ -1,27 +1,22 @@
 -- Parts of a line, one put after the other. Assumes nothing.
 use mathlib.Core.Path.{◌≡◌, refl, sym, ap, ◌∙◌}
 use mathlib.Core.List.{List, [], ◌∷◌, ◌++◌, append_assoc}
-use Prim.Native.Nat.{ℕ, suc, ◌+◌, ◌≤◌, ◌<◌}
+use Prim.Native.Nat.{ℕ, suc, ◌+◌, ◌≤◌}
 use native.Mathlib.Omega.{arith}
-use native.Mathlib.Numerals.{add-one}
-use lib.Seq.{set_split, take-append_seam}
+use lib.Seq.{take-append_seam}
 use lib.IntN.{ℤ, pos, negsuc}
 use lib.ListN.{length, set, take, drop, length-append}
 use Rattle.io.specs.Counts.{IsPrefixLen}
 use Rattle.lay.specs.Bytes.{put}
 use Rattle.listed.specs.Decimals.{decimal_text, value_text}
 use Rattle.listed.proofs.DecimalLaws.{decimal_short}
-use Rattle.lay.proofs.Puts.{length_put, put_then, put_front}
-
-put_byte : (out : List ℕ) (o n : ℕ) → o < length out → set out o n ≡ put out o (n ∷ [])
-unfolding put
-put_byte out o n h = rw (add-one o) (set_split out o n h)
+use Rattle.lay.proofs.Puts.{length_put, put_cell, put_then, put_front}
 
 -- a text, then a byte right after it
 pub put_ended : (out mid after x : List ℕ) (o e s : ℕ) → mid ≡ put out o x → e ≡ o + length x → after ≡ set mid e s → e + 1 ≤ length out → (e + 1 ≡ o + length (x ++ (s ∷ []))) × (after ≡ put out o (x ++ (s ∷ [])))
 put_ended out mid after x o e s p q a h =
     let l : length mid ≡ length out = ap length p ∙ length_put out o x (omega (arith, q, h)) in
-    let b : after ≡ put mid e (s ∷ []) = a ∙ put_byte mid e s (omega (arith, l, h)) in
+    let b : after ≡ put mid e (s ∷ []) = a ∙ put_cell mid e s (omega (arith, l, h)) in
     (omega (arith, q, length-append x (s ∷ [])), put_then out mid after o x (s ∷ []) e p b q (omega (arith, h)))
 
 -- ---- steps: x is put at o, and p is where it ends

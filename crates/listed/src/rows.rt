@@ -7,7 +7,7 @@ ghost use Rattle.listed.specs.Lines.{row_text};
 use crate::numbers::{put_decimal, put_value};
 use lay::put::put_text;
 
-// A text and the byte after it; answers where they end.
+// A text and the byte after it; answers where they end. A number and a value have their own below: each is one call and the byte.
 pub fn put_part(out: &mut [u8], o: usize, t: &[u8], after: u8) -> usize
     requires { o + length t.now + 1 ≤ length out.old }
     ensures { (result ≡ o + length (t.now ++ (after ∷ []))) × (out.new ≡ put out.old o (t.now ++ (after ∷ []))) }
@@ -51,9 +51,9 @@ pub fn put_row(
     requires { o + length name.now + 86 ≤ length out.old }
     ensures { (result ≡ o + length (row_text name.now sample width raw value)) × (out.new ≡ put out.old o (row_text name.now sample width raw value)) }
 {
-    let a = put_part(out, o, name, 44);
-    let b = put_field(out, a, sample, 44);
-    let c = put_field(out, b, width, 44);
-    let d = put_field(out, c, raw, 44);
-    put_last(out, d, value, 10)
+    let a = put_part(out, o, name, b',');
+    let b = put_field(out, a, sample, b',');
+    let c = put_field(out, b, width, b',');
+    let d = put_field(out, c, raw, b',');
+    put_last(out, d, value, b'\n')
 }

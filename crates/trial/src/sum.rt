@@ -2,7 +2,6 @@
 ghost use Rattle.std.specs.Prelude.{◌<◌};
 
 use framing::page::Outcome;
-use listed::numbers::{natural, turned};
 
 fn step(h: u64, x: u64) -> u64
     requires { (h < 4294967291) × (x < 4294967296) }
@@ -38,18 +37,11 @@ struct Halves {
     high: u64,
 }
 
-// Of a negative value in two's complement each bit is the other one of minus one minus the value.
+// Of a negative value the halves of its two's complement.
 fn halves_of(v: i64) -> Halves
     ensures { (result.low < 4294967296) × (result.high < 4294967296) }
 {
-    if v < 0 {
-        let rest = natural(turned(v));
-        return Halves {
-            low: 4294967295 - bits::low_bits_of(rest, 32),
-            high: 4294967295 - bits::bits_above(rest, 32),
-        };
-    }
-    let n = natural(v);
+    let n = v.cast_unsigned();
     Halves {
         low: bits::low_bits_of(n, 32),
         high: bits::bits_above(n, 32),
