@@ -2,8 +2,6 @@ use mathlib.Core.Path.{sym, ◌∙◌}
 use native.Mathlib.Omega.{arith}
 use Rattle.lay.proofs.Passing.{passed_none, passed_more, failed, passed_all}
 use Rattle.carding.proofs.Agreeing.{agrees_all}
-use mathlib.Core.Path.{ap}
-use mathlib.Core.Bool.{not}
 use Rattle.card.proofs.agree.agrees.Goals as goal
 
 pub loop-i-init : goal.loop-i-init
@@ -15,11 +13,11 @@ reads_at-requires c =
 
 pub returns-then-not-reads_at : goal.returns-then-not-reads_at
 returns-then-not-reads_at c =
-    failed c.loop-i.invariant c.loop-i-test.true c.reads_at.ensures (ap not c.if-not-reads_at.true)
+    failed c.loop-i.invariant c.loop-i-test.true c.reads_at.ensures c.if-not-reads_at.true
     ∙ sym (agrees_all c.args.s.now.ruled.declared.table.bytes.now c.args.stream.now c.args.p c.args.s.now.ruled.ruled)
 
 pub loop-i-preserved : goal.loop-i-preserved
-loop-i-preserved c = passed_more c.loop-i.invariant c.loop-i-test.true c.reads_at.ensures (ap not c.if-not-reads_at.false)
+loop-i-preserved c = passed_more c.loop-i.invariant c.loop-i-test.true c.reads_at.ensures c.if-not-reads_at.false
 
 pub returns : goal.returns
 returns c =

@@ -1,14 +1,11 @@
-use mathlib.Core.Path.{◌∙◌, ap}
-use mathlib.Core.Bool.{not}
+use mathlib.Core.Path.{◌∙◌}
 use native.Mathlib.Omega.{arith}
 use borrow.Author.Tests.{eq-eqb, ne_eqb}
 use Rattle.lay.proofs.Passing.{passed_none, passed_more, failed, passed_all}
-use Rattle.lay.proofs.Tests.{holds_not}
 use Rattle.model.specs.View.{view}
 use Rattle.framing.proofs.Held.{holds_all}
 use Rattle.carding.specs.Layout.{frame_at}
 use Rattle.card.proofs.Runs.{along_none, law_here, place_narrow, next_narrow, along_more, tested}
-use mathlib.Core.Bool.{not}
 use Rattle.card.proofs.agree.holds_in.Goals as goal
 
 pub sample_at-m-requires : goal.sample_at-m-requires
@@ -41,7 +38,7 @@ returns-then-bits_at-field_of c =
     let l = c.loop-k-test.true in
     let b = c.args.s.now.ruled.declared.table.bytes.now in
     let y = c.args.stream.now in
-    failed v.1 l (tested v.0 l c.run_at-c.ensures y c.args.p c.args.v c.bits_at.ensures.0 c.field_of.ensures) (holds_not _ (ne_eqb _ _ c.if-bits_at-field_of.true))
+    failed v.1 l (tested v.0 l c.run_at-c.ensures y c.args.p c.args.v c.bits_at.ensures.0 c.field_of.ensures) (ne_eqb _ _ c.if-bits_at-field_of.true)
     ∙ holds_all b c.args.j (frame_at (view b) y c.args.p) c.args.v
 
 pub overflow_add-at : goal.overflow_add-at
@@ -53,7 +50,7 @@ loop-k-preserved c =
     let l = c.loop-k-test.true in
     let e = c.run_at-c.ensures in (
       along_more v.0 l e,
-      passed_more v.1 l (tested v.0 l e c.args.stream.now c.args.p c.args.v c.bits_at.ensures.0 c.field_of.ensures) (ap not (eq-eqb _ _ c.if-bits_at-field_of.false)),
+      passed_more v.1 l (tested v.0 l e c.args.stream.now c.args.p c.args.v c.bits_at.ensures.0 c.field_of.ensures) (eq-eqb _ _ c.if-bits_at-field_of.false),
     )
 
 pub returns : goal.returns

@@ -15,10 +15,10 @@ subframe_fits-requires c =
 
 pub returns-then-not-subframe_fits : goal.returns-then-not-subframe_fits
 returns-then-not-subframe_fits c =
-    failed c.loop-i.invariant c.loop-i-test.true c.subframe_fits.ensures (ap not c.if-not-subframe_fits.true) ∙ sym (all_fit c.args.f.now.ruled.now.declared.table.bytes.now c.args.f.now.words.now)
+    failed c.loop-i.invariant c.loop-i-test.true c.subframe_fits.ensures c.if-not-subframe_fits.true ∙ sym (all_fit c.args.f.now.ruled.now.declared.table.bytes.now c.args.f.now.words.now)
 
 pub loop-i-preserved : goal.loop-i-preserved
-loop-i-preserved c = passed_more c.loop-i.invariant c.loop-i-test.true c.subframe_fits.ensures (ap not c.if-not-subframe_fits.false)
+loop-i-preserved c = passed_more c.loop-i.invariant c.loop-i-test.true c.subframe_fits.ensures c.if-not-subframe_fits.false
 
 pub returns : goal.returns
 returns c =

@@ -51,7 +51,7 @@ field_of-requires c =
 
 pub returns-then-part-field_of : goal.returns-then-part-field_of
 returns-then-part-field_of c =
-    failed c.loop-k.invariant.passed c.loop-k-test.true (holds_read c.args.f.now.ruled.now.declared.table.bytes.now c.args.j c.requires.sample_law c.args.f.now.words.now c.args.f.now.ruled.now.ruled c.args.f.now.words_len c.loop-k.k (omega (arith, c.loop-k.invariant.passed.counted, c.loop-k-test.true)) c.sample_at-s.ensures.first_is c.args.v c.whole_at-c.ensures c.part.ensures c.bits_of-n.ensures.0 c.field_of.ensures c.loop-k.invariant.place) (holds_not _ (ne_eqb _ _ c.if-part-field_of.true))
+    failed c.loop-k.invariant.passed c.loop-k-test.true (holds_read c.args.f.now.ruled.now.declared.table.bytes.now c.args.j c.requires.sample_law c.args.f.now.words.now c.args.f.now.ruled.now.ruled c.args.f.now.words_len c.loop-k.k (omega (arith, c.loop-k.invariant.passed.counted, c.loop-k-test.true)) c.sample_at-s.ensures.first_is c.args.v c.whole_at-c.ensures c.part.ensures c.bits_of-n.ensures.0 c.field_of.ensures c.loop-k.invariant.place) (ne_eqb _ _ c.if-part-field_of.true)
     ∙ holds_all c.args.f.now.ruled.now.declared.table.bytes.now c.args.j c.args.f.now.words.now c.args.v
 
 pub piece_at-requires : goal.piece_at-requires

@@ -24,7 +24,7 @@ returns-then-c-ne0 c =
 pub loop-k-preserved : goal.loop-k-preserved
 loop-k-preserved c =
     let x = overlap_read c.args.r.now.declared.table.bytes.now c.args.j c.loop-k.k _ c.sample_at-s.ensures.first_is (omega (arith, c.loop-k.invariant.counted, c.loop-k-test.true)) c.component_at-c.ensures in
-    passed_more c.loop-k.invariant c.loop-k-test.true refl (ap not (eq-eqb _ 0 (x ∙ c.if-c-ne0.false)))
+    passed_more c.loop-k.invariant c.loop-k-test.true refl (eq-eqb _ 0 (x ∙ c.if-c-ne0.false))
 
 pub returns : goal.returns
 returns c = sym (no_laps c.args.r.now.declared.table.bytes.now c.args.j c.requires.sample_law (sym (passed_all c.loop-k.invariant c.loop-k-test.false)))

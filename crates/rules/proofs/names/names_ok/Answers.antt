@@ -14,10 +14,10 @@ newly_named-requires c =
 
 pub returns-then-not-newly_named : goal.returns-then-not-newly_named
 unfolding names_ok
-returns-then-not-newly_named c = failed c.loop-i.invariant c.loop-i-test.true c.newly_named.ensures (ap not c.if-not-newly_named.true)
+returns-then-not-newly_named c = failed c.loop-i.invariant c.loop-i-test.true c.newly_named.ensures c.if-not-newly_named.true
 
 pub loop-i-preserved : goal.loop-i-preserved
-loop-i-preserved c = passed_more c.loop-i.invariant c.loop-i-test.true c.newly_named.ensures (ap not c.if-not-newly_named.false)
+loop-i-preserved c = passed_more c.loop-i.invariant c.loop-i-test.true c.newly_named.ensures c.if-not-newly_named.false
 
 pub returns : goal.returns
 unfolding names_ok

@@ -15,10 +15,10 @@ named_apart-requires c =
     record { parameter_here = parameter_here _ p.entries c.loop-k.k (omega (arith, l, p.i_bound)); parameter_here_2 = parameter_here _ p.entries c.args.i p.i_bound }
 
 pub returns-then-not-named_apart : goal.returns-then-not-named_apart
-returns-then-not-named_apart c = failed c.loop-k.invariant c.loop-k-test.true c.named_apart.ensures (ap not c.if-not-named_apart.true)
+returns-then-not-named_apart c = failed c.loop-k.invariant c.loop-k-test.true c.named_apart.ensures c.if-not-named_apart.true
 
 pub loop-k-preserved : goal.loop-k-preserved
-loop-k-preserved c = passed_more c.loop-k.invariant c.loop-k-test.true c.named_apart.ensures (ap not c.if-not-named_apart.false)
+loop-k-preserved c = passed_more c.loop-k.invariant c.loop-k-test.true c.named_apart.ensures c.if-not-named_apart.false
 
 pub returns : goal.returns
 returns c = passed_all c.loop-k.invariant c.loop-k-test.false

@@ -6,9 +6,6 @@ use Rattle.lay.proofs.Tests.{holds_not}
 use Rattle.model.specs.Accepts.{zero_bytes_ok}
 use Rattle.stored.proofs.layout.zeros_ok.Goals as goal
 
-not_not : {t : Bool} → t ≡ true → not t ≡ false
-not_not h = ap not h
-
 pub loop-k-init : goal.loop-k-init
 loop-k-init c = passed_none _ _ _ c.args.t.now.opened_of.counts.components_is
 
@@ -16,12 +13,12 @@ pub returns-then-zero_byte-ne0 : goal.returns-then-zero_byte-ne0
 unfolding zero_bytes_ok
 returns-then-zero_byte-ne0 c =
     failed c.loop-k.invariant c.loop-k-test.true refl
-    (holds_not _ (ne_eqb _ 0 (λ e. c.if-zero_byte-ne0.true (c.zero_byte.ensures ∙ e))))
+    (ne_eqb _ 0 (λ e. c.if-zero_byte-ne0.true (c.zero_byte.ensures ∙ e)))
 
 pub loop-k-preserved : goal.loop-k-preserved
 loop-k-preserved c =
     passed_more c.loop-k.invariant c.loop-k-test.true refl
-    (not_not (eq-eqb _ 0 (sym c.zero_byte.ensures ∙ c.if-zero_byte-ne0.false)))
+    (eq-eqb _ 0 (sym c.zero_byte.ensures ∙ c.if-zero_byte-ne0.false))
 
 pub returns : goal.returns
 unfolding zero_bytes_ok
