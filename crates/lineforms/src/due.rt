@@ -1,8 +1,8 @@
 // What is due, what a line turns out to be, and what is due after it.
 ghost use Rattle.std.specs.Prelude.{◌≡◌};
-ghost use Rattle.lineforms.specs.declared.due.Form.TheVariants.{Stray, HeaderWord, RecordWord, ParameterWord};
 ghost use Rattle.lineforms.specs.Forms.{word_form, count_form, either_form, opening_form, after_sample_form, form_of, due_after};
 
+use Form::{HeaderWord, NoneWord, ParameterWord, RecordWord, Stray};
 use text::field::field_count;
 use text::keyword::{Keyword, keyword_of};
 
@@ -88,69 +88,18 @@ fn either_form(line: &[u8], n: usize, form: Form, m: usize, other: Form) -> Form
     }
 }
 
-// The first line.
-fn header_form(line: &[u8]) -> Form
-    ensures { result ≡ word_form line.now HeaderWord Stray Stray Stray }
-{
-    word_form(
-        line,
-        Form::HeaderWord,
-        Form::Stray,
-        Form::Stray,
-        Form::Stray,
-    )
-}
-
-// The first record pair.
-fn record_form(line: &[u8]) -> Form
-    ensures { result ≡ word_form line.now Stray RecordWord Stray Stray }
-{
-    word_form(
-        line,
-        Form::Stray,
-        Form::RecordWord,
-        Form::Stray,
-        Form::Stray,
-    )
-}
-
-// One more parameter.
-fn parameter_form(line: &[u8]) -> Form
-    ensures { result ≡ word_form line.now Stray Stray Stray ParameterWord }
-{
-    word_form(
-        line,
-        Form::Stray,
-        Form::Stray,
-        Form::Stray,
-        Form::ParameterWord,
-    )
-}
-
 // After so many record pairs, of so many subframes.
 #[tactic(auto, unfolding(crate::specs::Forms::opening_form))]
 fn opening_form(line: &[u8], pairs: usize, subframes: usize) -> Form
     ensures { result ≡ opening_form line.now pairs subframes }
 {
     if pairs == subframes {
-        return word_form(
-            line,
-            Form::Stray,
-            Form::Stray,
-            Form::NoneWord,
-            Form::ParameterWord,
-        );
+        word_form(line, Stray, Stray, NoneWord, ParameterWord)
+    } else if pairs == 1 {
+        word_form(line, Stray, RecordWord, NoneWord, ParameterWord)
+    } else {
+        word_form(line, Stray, RecordWord, Stray, Stray)
     }
-    if pairs == 1 {
-        return word_form(
-            line,
-            Form::Stray,
-            Form::RecordWord,
-            Form::NoneWord,
-            Form::ParameterWord,
-        );
-    }
-    record_form(line)
 }
 
 // A component line opens one more sample, a blank line ends them; two fields are a superframe line.
@@ -169,9 +118,9 @@ pub fn form_of(due: Due, pairs: usize, subframes: usize, line: &[u8]) -> Form
     ensures { result ≡ form_of due pairs subframes line.now }
 {
     match due {
-        Due::HeaderWord => header_form(line),
+        Due::HeaderWord => word_form(line, HeaderWord, Stray, Stray, Stray),
         Due::HeaderLine => count_form(line, 14, Form::HeaderLine),
-        Due::RecordWord => record_form(line),
+        Due::RecordWord => word_form(line, Stray, RecordWord, Stray, Stray),
         Due::RecordLine => count_form(line, 5, Form::RecordLine),
         Due::Opening => opening_form(line, pairs, subframes),
         Due::NameLine => count_form(line, 7, Form::NameLine),
@@ -184,7 +133,7 @@ pub fn form_of(due: Due, pairs: usize, subframes: usize, line: &[u8]) -> Form
         Due::AfterSource => either_form(line, 4, Form::LabelLine, 0, Form::SourceEnd),
         Due::SourceBlank => count_form(line, 0, Form::SourceEnd),
         Due::AfterSourceBlank => either_form(line, 3, Form::SourceLine, 0, Form::ParameterEnd),
-        Due::NextParameter => parameter_form(line),
+        Due::NextParameter => word_form(line, Stray, Stray, Stray, ParameterWord),
         Due::Nothing => Form::Stray,
     }
 }
