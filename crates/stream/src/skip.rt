@@ -46,6 +46,7 @@ pub fn skip_unlike(stream: &[u8], k: usize, n: u32, want: u64) -> usize
     ensures { Skips stream.now k n want result }
 {
     let mut a = byte_of(k);
+    // a while: where it ends is needed behind it
     while a + 4 <= stream.len() {
         let v = lay::four_at(stream, a) as u64;
         if !eight_unlike(v, n, want) {
