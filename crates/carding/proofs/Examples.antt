@@ -3,6 +3,7 @@ use mathlib.Core.Path.{◌≡◌, refl}
 use mathlib.Core.Bool.{true, false}
 use mathlib.Core.List.{List, [], ◌∷◌}
 use Prim.Native.Nat.{ℕ}
+use Rattle.std.specs.Prelude.{Err}
 use Rattle.bits.specs.Word.{bit_at, field}
 use Rattle.lay.specs.Bytes.{put}
 use Rattle.sample.specs.Joining.{part_of}
@@ -16,10 +17,9 @@ use Rattle.model.specs.Wall.{sync, pitch}
 use Rattle.stream.specs.Stream.{stream_bit, bits_from}
 use Rattle.framing.specs.Comparing.{differs_at, differs_in, compared_in, compared_number}
 use Rattle.table.specs.declared.reason.Reason.TheVariants.{NoFrame, FewWords}
-use Rattle.carding.specs.declared.carded.Carded.TheVariants.{Found, Refused}
 use Rattle.carding.specs.Layout.{subframe_bits, bits_before, words_begin, word_begins, word_in, frame_at, word_starts, source_at, raw_at, component_begins, held_from}
 use Rattle.carding.specs.Search.{whole_at, agrees_at, position_from, found_from}
-use Rattle.carding.specs.Answer.{searched, carded_in, handed_for}
+use Rattle.carding.specs.Answer.{searched, carded_in, handed_for, found_at}
 use Rattle.carding.specs.Writing.{packed, low_bits, row_bits, subframe_stream, frame_stream, written}
 
 abbrev pub margined : Content
@@ -34,12 +34,12 @@ margined =
 abbrev pub stream : List ℕ
 stream = 160 ∷ 35 ∷ 41 ∷ 0 ∷ 0 ∷ 48 ∷ 128 ∷ []
 
-pub found : carded_in true margined stream 0 (1 ∷ 2 ∷ 3 ∷ 4 ∷ 5 ∷ []) ≡ Found 4 4
+pub found : carded_in true margined stream 0 (1 ∷ 2 ∷ 3 ∷ 4 ∷ 5 ∷ []) ≡ found_at 4 4
 unfolding carded_in searched found_from position_from whole_at agrees_at compared_number compared_in differs_in differs_at holds holds_at place_in frame_words part_of whole piece word_counts position before sum frame_at word_in word_begins words_begin bits_before subframe_bits bits_from stream_bit bit_at field
 found = refl
 
 -- words beyond the frame stay
-pub handed : handed_for margined stream (1 ∷ 2 ∷ 3 ∷ 4 ∷ 5 ∷ []) (Found 4 4) ≡ 583 ∷ 5 ∷ 0 ∷ 6 ∷ 5 ∷ []
+pub handed : handed_for margined stream (1 ∷ 2 ∷ 3 ∷ 4 ∷ 5 ∷ []) (found_at 4 4) ≡ 583 ∷ 5 ∷ 0 ∷ 6 ∷ 5 ∷ []
 unfolding handed_for put frame_at word_in word_begins words_begin bits_before subframe_bits bits_from stream_bit bit_at
 handed = refl
 
@@ -49,11 +49,11 @@ unfolding raw_at source_at word_starts gather places places_from pieces piece wo
 pitch_straight = refl
 
 -- one bit later there is none: 25; and 28 with three words lent
-pub later : carded_in true margined stream 5 (1 ∷ 2 ∷ 3 ∷ 4 ∷ []) ≡ Refused NoFrame
+pub later : carded_in true margined stream 5 (1 ∷ 2 ∷ 3 ∷ 4 ∷ []) ≡ Err NoFrame
 unfolding carded_in searched found_from position_from whole_at agrees_at compared_number compared_in differs_in differs_at holds holds_at place_in frame_words part_of whole piece word_counts position before sum frame_at word_in word_begins words_begin bits_before subframe_bits bits_from stream_bit bit_at field
 later = refl
 
-pub few : carded_in true margined stream 0 (1 ∷ 2 ∷ 3 ∷ []) ≡ Refused FewWords
+pub few : carded_in true margined stream 0 (1 ∷ 2 ∷ 3 ∷ []) ≡ Err FewWords
 unfolding carded_in searched found_from position_from whole_at agrees_at compared_number compared_in differs_in differs_at holds holds_at place_in frame_words part_of whole piece word_counts position before sum frame_at word_in word_begins words_begin bits_before subframe_bits bits_from stream_bit bit_at field
 few = refl
 
@@ -79,7 +79,7 @@ tight =
 abbrev pub bare : List ℕ
 bare = 71 ∷ 82 ∷ 0 ∷ 0 ∷ 96 ∷ 0 ∷ []
 
-pub cut_short : carded_in true trailed bare 0 (1 ∷ 2 ∷ 3 ∷ 4 ∷ []) ≡ Refused NoFrame
+pub cut_short : carded_in true trailed bare 0 (1 ∷ 2 ∷ 3 ∷ 4 ∷ []) ≡ Err NoFrame
 unfolding carded_in searched found_from position_from whole_at agrees_at compared_number compared_in differs_in differs_at holds holds_at place_in frame_words part_of whole piece word_counts position before sum frame_at word_in word_begins words_begin bits_before subframe_bits bits_from stream_bit bit_at field
 cut_short = refl
 
@@ -124,6 +124,6 @@ pub held_second : (held_from lapped two_frames 0 copied 45 ≡ false) × (held_f
 unfolding held_from place_in component_begins piece word_begins words_begin bits_before subframe_bits bits_from stream_bit bit_at field
 held_second = (refl, refl)
 
-pub passed_over : carded_in true lapped two_frames 0 (0 ∷ 0 ∷ []) ≡ Found 8 2
+pub passed_over : carded_in true lapped two_frames 0 (0 ∷ 0 ∷ []) ≡ found_at 8 2
 unfolding carded_in searched found_from position_from whole_at agrees_at compared_number compared_in differs_in differs_at holds holds_at place_in frame_words part_of whole piece word_counts position before sum frame_at word_in word_begins words_begin bits_before subframe_bits bits_from stream_bit bit_at field
 passed_over = refl

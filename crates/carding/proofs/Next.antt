@@ -9,6 +9,7 @@ use native.Mathlib.Omega.{arith}
 use borrow.Author.Tests.{leb-true}
 use lib.Dec.{eqb, leb}
 use lib.ListN.{length}
+use Rattle.std.specs.Prelude.{Err}
 use Rattle.lay.proofs.Below.{sum_up}
 use Rattle.model.specs.Content.{Content, Subframe, subframe, subframes, parameters}
 use Rattle.model.specs.Frame.{frame_words}
@@ -20,10 +21,9 @@ use Rattle.model.proofs.Views.{subframes_view, subframe_view}
 use Rattle.rules.specs.Ruled.{Ruled}
 use Rattle.table.proofs.Accepting.{accepted_ruled}
 use Rattle.table.specs.declared.reason.Reason.TheVariants.{NoTable, UnknownMargin, NoParameters, LongStream, NoFrame, FewWords}
-use Rattle.carding.specs.declared.carded.Carded.TheVariants.{Found, Refused}
 use Rattle.carding.specs.Layout.{subframe_bits, bits_before, frame_bits}
 use Rattle.carding.specs.Search.{position_from, found_from}
-use Rattle.carding.specs.Answer.{searched, margins_told, carded_in, carded_of, longest_stream, bits_of_frame}
+use Rattle.carding.specs.Answer.{searched, margins_told, carded_in, carded_of, longest_stream, bits_of_frame, found_at}
 use Rattle.carding.proofs.Answers.{whole_inside, found_first}
 use Rattle.carding.proofs.CardCases.{bits_there, found_same, found_not}
 
@@ -59,7 +59,7 @@ module _ (b y : List ℕ) (from : ℕ) (words : List ℕ) (p n : ℕ) where
   abbrev c : Content
   c = view b
 
-  stands : accepts b ≡ true → margins_told b ≡ true → length y ≤ longest_stream → found_from c y from ≡ true → frame_words c ≤ length words → Found (position_from c y from) (frame_words c) ≡ Found p n → Stands b y from words p n
+  stands : accepts b ≡ true → margins_told b ≡ true → length y ≤ longest_stream → found_from c y from ≡ true → frame_words c ≤ length words → found_at (position_from c y from) (frame_words c) ≡ found_at p n → Stands b y from words p n
   stands a t s f w e =
       let q = found_first c y from f in
       let same = found_same e in
@@ -75,12 +75,12 @@ module _ (b y : List ℕ) (from : ℕ) (words : List ℕ) (p n : ℕ) where
         room = omega (arith, w, same.1);
       }
 
-  pub found_stands : carded_of b y from words ≡ Found p n → Stands b y from words p n
+  pub found_stands : carded_of b y from words ≡ found_at p n → Stands b y from words p n
   unfolding carded_of carded_in searched
   found_stands e = go (accepts b) (eqb (parameters c) 0) (margins_told b) (leb (length y) longest_stream) (found_from c y from) (leb (frame_words c) (length words)) refl refl refl refl refl e
     where
       go : (a z t l f w : Bool) → accepts b ≡ a → margins_told b ≡ t → leb (length y) longest_stream ≡ l → found_from c y from ≡ f → leb (frame_words c) (length words) ≡ w
-          → cond a (cond z (Refused NoParameters) (cond t (cond l (cond f (cond w (Found (position_from c y from) (frame_words c)) (Refused FewWords)) (Refused NoFrame)) (Refused LongStream)) (Refused UnknownMargin))) (Refused NoTable) ≡ Found p n → Stands b y from words p n
+          → cond a (cond z (Err NoParameters) (cond t (cond l (cond f (cond w (found_at (position_from c y from) (frame_words c)) (Err FewWords)) (Err NoFrame)) (Err LongStream)) (Err UnknownMargin))) (Err NoTable) ≡ found_at p n → Stands b y from words p n
       go true false true true true true a t l f w e = stands a t (leb-true _ _ l) f (leb-true _ _ w) e
       go true false true true true false a t l f w e = absurd (found_not e)
       go true false true true false w₀ a t l f w e = absurd (found_not e)

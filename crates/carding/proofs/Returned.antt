@@ -12,10 +12,9 @@ use Rattle.model.specs.Frame.{frame_words, meets}
 use Rattle.model.specs.View.{view}
 use Rattle.model.specs.Accepts.{accepts}
 use Rattle.framing.specs.Comparing.{compared_in, compared_number}
-use Rattle.carding.specs.declared.carded.Carded.TheVariants.{Found}
 use Rattle.carding.specs.Layout.{frame_at}
 use Rattle.carding.specs.Search.{position_from}
-use Rattle.carding.specs.Answer.{margins_told, carded_of, handed_of, longest_stream}
+use Rattle.carding.specs.Answer.{margins_told, carded_of, handed_of, longest_stream, found_at}
 use Rattle.carding.specs.Writing.{Margins, written}
 use Rattle.carding.proofs.CardCases.{handed_out, answered}
 use Rattle.carding.proofs.Back.{there_and_back, written_found, written_whole}
@@ -31,7 +30,7 @@ pub record Writable (b f words : List ℕ) : Type 0 where
 
 -- what is answered for a card
 pub record AnsweredAt (b y words : List ℕ) (p : ℕ) : Type 0 where
-  pub found : Found p (frame_words (view b)) ≡ carded_of b y 0 words
+  pub found : found_at p (frame_words (view b)) ≡ carded_of b y 0 words
   pub handed : put words 0 (frame_at (view b) y p) ≡ handed_of b y 0 words
 
 module _ (b f words : List ℕ) (h : Writable b f words) (m : Margins) (k front n back : ℕ) where
@@ -54,7 +53,7 @@ module _ (b f words : List ℕ) (h : Writable b f words) (m : Margins) (k front 
 
 -- at the first bit: position 0, and exactly these words in front of what was lent
 module _ (b f words : List ℕ) (h : Writable b f words) (m : Margins) (n back : ℕ) (short : length (written (view b) m f 0 0 n back) ≤ longest_stream) where
-  pub answered_first : (Found 0 (frame_words (view b)) ≡ carded_of b (written (view b) m f 0 0 n back) 0 words) × (put words 0 f ≡ handed_of b (written (view b) m f 0 0 n back) 0 words)
+  pub answered_first : (found_at 0 (frame_words (view b)) ≡ carded_of b (written (view b) m f 0 0 n back) 0 words) × (put words 0 f ≡ handed_of b (written (view b) m f 0 0 n back) 0 words)
   answered_first =
       let y = written (view b) m f 0 0 n back in
       let l = answered_there b f words h m 0 0 n back short in

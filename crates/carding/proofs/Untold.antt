@@ -8,6 +8,7 @@ use native.Mathlib.Omega.{arith}
 use borrow.Author.Tests.{eqb-true, eq-eqb, not-false}
 use lib.Dec.{eqb, leb}
 use lib.ListN.{length}
+use Rattle.std.specs.Prelude.{Err}
 use Rattle.lay.proofs.Below.{all_below, all_fails}
 use Rattle.lay.proofs.Tests.{and_0, and_1, refuse, not_holds}
 use Rattle.model.specs.Margin.{Unknown, is_known}
@@ -21,9 +22,8 @@ use Rattle.model.proofs.Rows.{blank_said}
 use Rattle.model.proofs.Statements.{accepted_known}
 use Rattle.table.specs.Reasons.{reason_number}
 use Rattle.table.specs.declared.reason.Reason.TheVariants.{UnknownMargin, NoParameters, LongStream, NoFrame, FewWords}
-use Rattle.carding.specs.declared.carded.Carded.TheVariants.{Found, Refused}
 use Rattle.carding.specs.Search.{position_from, found_from}
-use Rattle.carding.specs.Answer.{longest_stream, margins_known, SomeUnknown, margins_told, searched, carded_in, carded_of, carded_number}
+use Rattle.carding.specs.Answer.{longest_stream, margins_known, SomeUnknown, margins_told, searched, carded_in, carded_of, carded_number, found_at}
 use Rattle.carding.proofs.CardCases.{refused_26}
 
 -- ---- all margins
@@ -74,10 +74,10 @@ module _ (b : List ℕ) (h : accepts b ≡ true) where
   -- ---- and the card's answer
 
   module _ (some : parameters (view b) ≡ 0 → ⊥) (y : List ℕ) (from : ℕ) (words : List ℕ) where
-    pub refused_so : (form_in b ≡ 1) ⊎ SomeUnknown (view b) → carded_of b y from words ≡ Refused UnknownMargin
+    pub refused_so : (form_in b ≡ 1) ⊎ SomeUnknown (view b) → carded_of b y from words ≡ Err UnknownMargin
     refused_so u = sym (refused_26 b y from words h some (sym (refuse (margins_told b) (not_told u)))).0
 
-    other : (e l f w : Bool) (p n : ℕ) → carded_number (cond e (Refused NoParameters) (cond l (cond f (cond w (Found p n) (Refused FewWords)) (Refused NoFrame)) (Refused LongStream))) ≡ 26 → ⊥
+    other : (e l f w : Bool) (p n : ℕ) → carded_number (cond e (Err NoParameters) (cond l (cond f (cond w (found_at p n) (Err FewWords)) (Err NoFrame)) (Err LongStream))) ≡ 26 → ⊥
     unfolding carded_number reason_number
     other true l f w p n q = omega (arith, q)
     other false false f w p n q = omega (arith, q)
@@ -89,7 +89,7 @@ module _ (b : List ℕ) (h : accepts b ≡ true) where
     unfolding carded_of carded_in searched
     refused_exactly = (λ e. go (margins_told b) refl e, λ u. ap carded_number (refused_so u) ∙ number)
       where
-        number : carded_number (Refused UnknownMargin) ≡ 26
+        number : carded_number (Err UnknownMargin) ≡ 26
         number = unfold carded_number reason_number in refl
 
         go : (t : Bool) → margins_told b ≡ t → carded_number (carded_of b y from words) ≡ 26 → (form_in b ≡ 1) ⊎ SomeUnknown (view b)
