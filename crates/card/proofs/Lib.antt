@@ -4,3 +4,4 @@ pub mod Runs
 pub mod Searching
 pub mod Handing
 pub mod Sieves
+pub mod Opened

@@ -6,13 +6,11 @@ ghost use Rattle.stream.specs.Stream.{bits_from};
 ghost use Rattle.model.specs.Forms.{sheet_limits};
 ghost use Rattle.model.specs.Frame.{frame_words};
 ghost use Rattle.model.specs.View.{view};
-ghost use Rattle.rules.specs.Ruled.{RuledBy};
 ghost use Rattle.carding.specs.Layout.{frame_at};
 ghost use Rattle.carding.specs.Answer.{longest_stream};
-ghost use Rattle.card.specs.Promise.{most_frame_bits, BeginsOf};
+ghost use Rattle.card.specs.Promise.{most_frame_bits};
 
-use model::limits::SUBFRAMES;
-use stored::items::{Opened, subframe_at};
+use super::spanned::SpannedTable;
 use stream::bits_at;
 
 // So many words of so many bits that stand in a row from bit k on, into the words from `at` on.
@@ -22,36 +20,22 @@ fn hand_row(stream: &[u8], k: usize, bits: usize, count: usize, words: &mut [u16
     ensures { words.new ≡ put words.old at (tab count (λ w. bits_from stream.now (k + w * bits) bits)) }
 {
     let mut place = k;
-    let mut w = 0;
-    while w < count {
+    for w in 0..count {
         words[at + w] = bits_at(stream, place, bits as u32) as u16;
         place += bits;
-        w += 1;
     }
 }
 
 // The frame at p; what stands behind its words stays.
-pub fn hand_out(
-    t: &[u8],
-    o: Opened,
-    stream: &[u8],
-    p: usize,
-    begins: &[usize; SUBFRAMES],
-    words: &mut [u16],
-)
-    requires ruled_by { RuledBy t.now o }
-    requires begins_of { BeginsOf t.now begins.now }
+pub fn hand_out(s: &SpannedTable, stream: &[u8], p: usize, words: &mut [u16])
     requires p_bound { p ≤ 8 * longest_stream }
-    requires t_in_bounds { frame_words (view t.now) ≤ length words.old }
-    ensures { words.new ≡ put words.old 0 (frame_at (view t.now) stream.now p) }
+    requires t_in_bounds { frame_words (view s.now.ruled.declared.table.bytes.now) ≤ length words.old }
+    ensures { words.new ≡ put words.old 0 (frame_at (view s.now.ruled.declared.table.bytes.now) stream.now p) }
 {
-    let subframes = o.counts.subframes;
     let mut at = 0;
-    let mut i = 0;
-    while i < subframes {
-        let f = subframe_at(t, o, i);
-        hand_row(stream, p + begins[i], f.bits, f.words, words, at);
+    for i in 0..s.ruled.declared.table.opened.counts.subframes {
+        let f = s.ruled.declared.table.subframe_at(i);
+        hand_row(stream, p + s.begins[i], f.bits, f.words, words, at);
         at += f.words;
-        i += 1;
     }
 }

@@ -7,4 +7,5 @@ pub mod hand;
 pub mod margins;
 pub mod search;
 pub mod sieve;
+pub mod spanned;
 pub mod spans;

@@ -1,16 +1,14 @@
 // The first position in a stream at which a whole frame fits and every identifier agrees.
 ghost use Rattle.std.specs.Prelude.{◌≡◌, ◌≤◌, ◌<◌, length};
 ghost use Rattle.model.specs.View.{view};
-ghost use Rattle.rules.specs.Ruled.{RuledBy};
 ghost use Rattle.carding.specs.Layout.{frame_bits};
 ghost use Rattle.carding.specs.Answer.{longest_stream};
 ghost use Rattle.carding.specs.Search.{position_from};
-ghost use Rattle.card.specs.Promise.{most_frame_bits, BeginsOf};
+ghost use Rattle.card.specs.Promise.{most_frame_bits};
 ghost use Rattle.card.specs.Sieve.{Shaped, NextSifted, rows};
 
 use super::sieve::{ROWS, agrees_sifted, sieve_of};
-use model::limits::SUBFRAMES;
-use stored::items::Opened;
+use super::spanned::SpannedTable;
 use stream::skip::skip_unlike;
 
 // The next position that the sieve's first row does not keep back: most are passed over here, many with each load.
@@ -33,29 +31,20 @@ fn next_sifted(
 }
 
 // The first at or after `from`, or one more than the stream has bits.
-pub fn position_from(
-    t: &[u8],
-    o: Opened,
-    stream: &[u8],
-    from: usize,
-    begins: &[usize; SUBFRAMES],
-    bits: usize,
-) -> usize
-    requires ruled_by { RuledBy t.now o }
-    requires begins_of { BeginsOf t.now begins.now }
-    requires bits_value { (bits ≡ frame_bits (view t.now)) × (bits ≤ most_frame_bits) }
+pub fn position_from(s: &SpannedTable, stream: &[u8], from: usize, bits: usize) -> usize
+    requires bits_value { (bits ≡ frame_bits (view s.now.ruled.declared.table.bytes.now)) × (bits ≤ most_frame_bits) }
     requires stream_len_bound { (length stream.now ≤ longest_stream) × (from < 4294967296) }
-    ensures { result ≡ position_from (view t.now) stream.now from }
+    ensures { result ≡ position_from (view s.now.ruled.declared.table.bytes.now) stream.now from }
 {
-    let s = sieve_of(t, o, begins);
-    let ats = s.ats;
-    let widths = s.widths;
-    let wants = s.wants;
-    let count = s.count;
+    let sieve = sieve_of(s);
+    let ats = sieve.ats;
+    let widths = sieve.widths;
+    let wants = sieve.wants;
+    let count = sieve.count;
     let end = 8 * stream.len();
     let mut p = next_sifted(stream, from, &ats, &widths, &wants, count);
     while p + bits <= end {
-        if agrees_sifted(t, o, stream, p, begins, &ats, &widths, &wants, count) {
+        if agrees_sifted(s, stream, p, &ats, &widths, &wants, count) {
             return p;
         }
         p = next_sifted(stream, p + 1, &ats, &widths, &wants, count);

@@ -3,17 +3,15 @@ ghost use Rattle.std.specs.Prelude.{◌≡◌, ◌*◌, ◌≤◌, ◌<◌};
 ghost use Rattle.model.specs.Forms.{sheet_limits};
 ghost use Rattle.model.specs.Stored.{parameters_in};
 ghost use Rattle.model.specs.View.{view};
-ghost use Rattle.rules.specs.Ruled.{RuledBy};
 ghost use Rattle.carding.specs.Answer.{longest_stream};
 ghost use Rattle.carding.specs.Search.{agrees_at};
-ghost use Rattle.card.specs.Promise.{most_run_at, BeginsOf};
+ghost use Rattle.card.specs.Promise.{most_run_at};
 ghost use Rattle.card.specs.Sieve.{Shaped, SieveOf, With, sifts_at, rows, rows_of};
 
 use super::agree::agrees;
+use super::spanned::SpannedTable;
 use super::spans::run_at;
-use model::limits::SUBFRAMES;
 use stored::flags::has_identifier;
-use stored::items::{Opened, parameter_at, sample_at};
 use stream::bits_at;
 
 // How many rows there is room for.
@@ -66,46 +64,35 @@ impl Sieve {
 }
 
 // The rows of parameter i, if it is an identifier: its value's bits, component by component.
-fn sift_more(t: &[u8], o: Opened, i: usize, begins: &[usize; SUBFRAMES], sieve: Sieve) -> Sieve
-    requires ruled_by { RuledBy t.now o }
-    requires begins_of { BeginsOf t.now begins.now }
-    requires i_bound { i < parameters_in t.now }
-    requires sieve_of { SieveOf t.now (rows_of sieve) }
-    ensures { SieveOf t.now (rows_of result) }
+fn sift_more(s: &SpannedTable, i: usize, sieve: Sieve) -> Sieve
+    requires i_bound { i < parameters_in s.now.ruled.declared.table.bytes.now }
+    requires sieve_of { SieveOf s.now.ruled.declared.table.bytes.now (rows_of sieve) }
+    ensures { SieveOf s.now.ruled.declared.table.bytes.now (rows_of result) }
 {
-    let e = parameter_at(t, o, i);
+    let e = s.ruled.declared.table.parameter_at(i);
     if !has_identifier(e.flags) {
         return sieve;
     }
-    let m = sample_at(t, o, e.first);
-    let first = m.first;
-    let count = m.count;
+    let m = s.ruled.declared.table.sample_at(e.first);
     let v = e.value as u64;
-    let mut s = sieve;
+    let mut more = sieve;
     let mut at: u32 = 0;
-    let mut k = 0;
-    while k < count {
-        let c = run_at(t, o, first + k, begins);
-        s = s.with(c.at, c.bits, bits::field_of(v, at, c.bits));
+    for k in 0..m.count {
+        let c = run_at(&s.ruled.declared, m.first + k, &s.begins);
+        more = more.with(c.at, c.bits, bits::field_of(v, at, c.bits));
         at += c.given;
-        k += 1;
     }
-    s
+    more
 }
 
-pub fn sieve_of(t: &[u8], o: Opened, begins: &[usize; SUBFRAMES]) -> Sieve
-    requires ruled_by { RuledBy t.now o }
-    requires begins_of { BeginsOf t.now begins.now }
-    ensures { SieveOf t.now (rows_of result) }
+pub fn sieve_of(s: &SpannedTable) -> Sieve
+    ensures { SieveOf s.now.ruled.declared.table.bytes.now (rows_of result) }
 {
-    let parameters = o.counts.parameters;
-    let mut s = Sieve::none();
-    let mut i = 0;
-    while i < parameters {
-        s = sift_more(t, o, i, begins, s);
-        i += 1;
+    let mut sieve = Sieve::none();
+    for i in 0..s.ruled.declared.table.opened.counts.parameters {
+        sieve = sift_more(s, i, sieve);
     }
-    s
+    sieve
 }
 
 // Whether every row holds in the frame at p: the search's inner loop, left at the first row that does not.
@@ -133,24 +120,20 @@ fn sifts(
 
 // Every identifier agrees in the frame at p: all are looked at only where the sieve lets p pass.
 pub fn agrees_sifted(
-    t: &[u8],
-    o: Opened,
+    s: &SpannedTable,
     stream: &[u8],
     p: usize,
-    begins: &[usize; SUBFRAMES],
     ats: &[usize; ROWS],
     widths: &[u32; ROWS],
     wants: &[u64; ROWS],
     count: usize,
 ) -> bool
-    requires ruled_by { RuledBy t.now o }
-    requires begins_of { BeginsOf t.now begins.now }
     requires p_bound { p ≤ 8 * longest_stream }
-    requires sieve_of { SieveOf t.now (rows ats.now widths.now wants.now count) }
-    ensures { result ≡ agrees_at (view t.now) stream.now p }
+    requires sieve_of { SieveOf s.now.ruled.declared.table.bytes.now (rows ats.now widths.now wants.now count) }
+    ensures { result ≡ agrees_at (view s.now.ruled.declared.table.bytes.now) stream.now p }
 {
     if !sifts(stream, p, ats, widths, wants, count) {
         return false;
     }
-    agrees(t, o, stream, p, begins)
+    agrees(s, stream, p)
 }

@@ -1,5 +1,4 @@
 -- The parameters before i read their values, where they are identifiers.
-use Prim.Native.Nat.{◌-◌}
 use Rattle.lay.proofs.Passing.{Passed}
 use Rattle.model.specs.Stored.{parameters_in}
 use Rattle.model.specs.View.{view}
@@ -8,7 +7,7 @@ use Rattle.carding.specs.Search.{reads_at}
 use Rattle.card.proofs.agree.agrees.Given as goal
 
 abbrev pub invariant-loop-i : goal.invariant-loop-i
-invariant-loop-i l = Passed (parameters_in l.t) (reads_at (view l.t) (frame_at (view l.t) l.stream l.p)) l.parameters l.i
-
-abbrev pub decreases-loop-i : goal.decreases-loop-i
-decreases-loop-i l = l.parameters - l.i
+invariant-loop-i l =
+    let t = l.s.ruled.declared.table in
+    let b = t.bytes.now in
+    Passed (parameters_in b) (reads_at (view b) (frame_at (view b) l.stream l.p)) t.opened.counts.parameters l.i

@@ -11,21 +11,19 @@ use Rattle.card.proofs.Runs.{along_none, law_here, place_narrow, next_narrow, al
 use mathlib.Core.Bool.{not}
 use Rattle.card.proofs.agree.holds_in.Goals as goal
 
-pub sample_at-s-requires : goal.sample_at-s-requires
-sample_at-s-requires c = record { opened_of = c.requires.ruled_by.opened; j_bound = c.requires.sample_here.here }
+pub sample_at-m-requires : goal.sample_at-m-requires
+sample_at-m-requires c = record { j_bound = c.requires.sample_here.here }
 
 pub loop-k-init : goal.loop-k-init
 loop-k-init c =
-    let s = c in
-    let e = c.sample_at-s.ensures in
-    (along_none e.first_is e.count_is s.requires.ruled_by.ruled s.requires.sample_law, passed_none _ _ _ e.count_is)
+    let e = c.sample_at-m.ensures in
+    (along_none e.first_is e.count_is c.args.s.now.ruled.ruled c.requires.sample_law, passed_none _ _ _ e.count_is)
 
 pub run_at-c-requires : goal.run_at-c-requires
 run_at-c-requires c =
-    let s = c in
     let v = c.loop-k.invariant.0 in
     let l = c.loop-k-test.true in
-    record { opened_of = s.requires.ruled_by.opened; k_bound = omega (arith, v.firsts, v.counted, l, s.requires.sample_here); subframes_law = s.requires.ruled_by.ruled.subframes; begins_of = s.requires.begins_of; component_law = law_here v l }
+    record { k_bound = omega (arith, v.firsts, v.counted, l, c.requires.sample_here); begins_of = c.args.s.now.begins_of; component_law = law_here v l }
 
 pub overflow_add-p : goal.overflow_add-p
 overflow_add-p c = record { fits = omega (arith, c.run_at-c.ensures.small, c.requires.p_bound) }
@@ -39,33 +37,27 @@ field_of-requires c =
 
 pub returns-then-bits_at-field_of : goal.returns-then-bits_at-field_of
 returns-then-bits_at-field_of c =
-    let s = c in
     let v = c.loop-k.invariant in
     let l = c.loop-k-test.true in
-    let b = s.args.t.now in
-    let y = s.args.stream.now in
-    failed v.1 l (tested v.0 l c.run_at-c.ensures y s.args.p s.args.v c.bits_at.ensures.0 c.field_of.ensures) (holds_not _ (ne_eqb _ _ c.if-bits_at-field_of.true))
-    ∙ holds_all b s.args.j (frame_at (view b) y s.args.p) s.args.v
+    let b = c.args.s.now.ruled.declared.table.bytes.now in
+    let y = c.args.stream.now in
+    failed v.1 l (tested v.0 l c.run_at-c.ensures y c.args.p c.args.v c.bits_at.ensures.0 c.field_of.ensures) (holds_not _ (ne_eqb _ _ c.if-bits_at-field_of.true))
+    ∙ holds_all b c.args.j (frame_at (view b) y c.args.p) c.args.v
 
 pub overflow_add-at : goal.overflow_add-at
 overflow_add-at c = omega (arith, next_narrow c.loop-k.invariant.0 c.loop-k-test.true c.run_at-c.ensures)
 
-pub loop-k-smaller : goal.loop-k-smaller
-loop-k-smaller c = omega (arith, c.loop-k-test.true)
-
 pub loop-k-preserved : goal.loop-k-preserved
 loop-k-preserved c =
-    let s = c in
     let v = c.loop-k.invariant in
     let l = c.loop-k-test.true in
     let e = c.run_at-c.ensures in (
       along_more v.0 l e,
-      passed_more v.1 l (tested v.0 l e s.args.stream.now s.args.p s.args.v c.bits_at.ensures.0 c.field_of.ensures) (ap not (eq-eqb _ _ c.if-bits_at-field_of.false)),
+      passed_more v.1 l (tested v.0 l e c.args.stream.now c.args.p c.args.v c.bits_at.ensures.0 c.field_of.ensures) (ap not (eq-eqb _ _ c.if-bits_at-field_of.false)),
     )
 
 pub returns : goal.returns
 returns c =
-    let s = c in
-    let b = s.args.t.now in
+    let b = c.args.s.now.ruled.declared.table.bytes.now in
     passed_all c.loop-k.invariant.1 c.loop-k-test.false
-    ∙ holds_all b s.args.j (frame_at (view b) s.args.stream.now s.args.p) s.args.v
+    ∙ holds_all b c.args.j (frame_at (view b) c.args.stream.now c.args.p) c.args.v

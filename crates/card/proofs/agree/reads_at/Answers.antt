@@ -20,21 +20,19 @@ returns-then-not-has_identifier c =
 
 pub holds_in-requires : goal.holds_in-requires
 holds_in-requires c =
-    let s = c in
-    let t = s.args.t.now in
-    let i = s.args.i in
-    let m = listed_at t i 0 s.requires.ruled_by.ruled s.requires.i_bound (first_one t i s.requires.ruled_by.ruled s.requires.i_bound) in
+    let t = c.args.s.now.ruled.declared.table.bytes.now in
+    let i = c.args.i in
+    let m = listed_at t i 0 c.args.s.now.ruled.ruled c.requires.i_bound (first_one t i c.args.s.now.ruled.ruled c.requires.i_bound) in
     let q : c.parameter_at-e.result.first ≡ first_sample_in t i + 0 = omega (arith, c.parameter_at-e.ensures) in
-    record { ruled_by = s.requires.ruled_by; begins_of = s.requires.begins_of; sample_here = here_at t i 0 m q; sample_law = law_at t i 0 m q; p_bound = s.requires.p_bound }
+    record { sample_here = here_at t i 0 m q; sample_law = law_at t i 0 m q; p_bound = c.requires.p_bound }
 
 pub returns : goal.returns
 returns c =
-    let s = c in
-    let t = s.args.t.now in
-    let i = s.args.i in
-    let l = s.requires.i_bound in
+    let t = c.args.s.now.ruled.declared.table.bytes.now in
+    let i = c.args.i in
+    let l = c.requires.i_bound in
     let e = c.parameter_at-e.ensures in
-    let f = frame_at (view t) s.args.stream.now s.args.p in
+    let f = frame_at (view t) c.args.stream.now c.args.p in
     c.holds_in.ensures
-    ∙ ap₂ (holds (subframes_of t) f) (ap (sample_at t) e.first_is ∙ sym (first t i s.requires.ruled_by.ruled l).is) e.value_is
+    ∙ ap₂ (holds (subframes_of t) f) (ap (sample_at t) e.first_is ∙ sym (first t i c.args.s.now.ruled.ruled l).is) e.value_is
     ∙ sym (identifier_reads t f i l (sym (identifier_flag t i e.flags_is c.has_identifier.ensures) ∙ c.if-not-has_identifier.false))

@@ -2,44 +2,51 @@
 use mathlib.Core.Path.{◌≡◌, sym, ◌∙◌}
 use Rattle.model.specs.Content.{parameters}
 use Rattle.model.specs.View.{view}
-use Rattle.model.proofs.Views.{parameters_view}
-use Rattle.table.proofs.Accepting.{opened_accepted, opened_not, opened_ruled}
+use mathlib.Core.List.{List}
+use Prim.Native.Nat.{ℕ}
+use mathlib.Core.Path.{ap}
+use Rattle.std.specs.Borrow.{Bor}
+use Rattle.carding.specs.Answer.{searched, handed_for}
+use Rattle.table.proofs.Accepting.{opened_accepted, opened_not}
 use Rattle.carding.proofs.CardCases.{refused_18, refused_27, refused_26, refused_38, answered}
+use Rattle.card.proofs.Opened.{none_out, opened_count, opened_told}
 use borrow.Author.Rules.{rules}
+use Rattle.card.proofs.card.card_from.Goals.{Else-r-eq0}
 use Rattle.card.proofs.card.card_from.Goals as goal
 
-pub returns-in_default : goal.returns-in_default
-returns-in_default c = refused_18 _ _ _ _ (opened_not c.opening-opened.ensures c.in_default.is)
+-- some parameter is there
+some : (c : Else-r-eq0) → parameters (view c.args.t.now) ≡ 0 → ⊥
+some c x = c.if-r-eq0.false (sym (opened_count c.opening.ensures c.in_ok-r.ensures.ok_part) ∙ x)
 
-pub returns-then-o-eq0 : goal.returns-then-o-eq0
-returns-then-o-eq0 c =
-    let e = c.in-Table.is in
-    refused_27 _ _ _ _ (opened_accepted c.opening-opened.ensures e) (parameters_view _ ∙ sym (c.opening-opened.ensures.opened _ e).counts.parameters_is ∙ c.if-o-eq0.true)
+pub returns-in_err-r : goal.returns-in_err-r
+returns-in_err-r c =
+    rw (none_out c.opening.result c.from_residual.result c.from_residual.ensures.1 c.in_err-r.ensures.value)
+    (refused_18 _ _ _ _ (opened_not c.opening.ensures c.in_err-r.ensures.ok_part))
 
-pub margins_told-requires : goal.margins_told-requires
-margins_told-requires c = (opened_ruled c.opening-opened.ensures c.in-Table.is).opened
+pub returns-then-r-eq0 : goal.returns-then-r-eq0
+returns-then-r-eq0 c =
+    let e = c.in_ok-r.ensures.ok_part in
+    refused_27 _ _ _ _ (opened_accepted c.opening.ensures e) (opened_count c.opening.ensures e ∙ c.if-r-eq0.true)
 
 pub returns-then-not-margins_told : goal.returns-then-not-margins_told
 returns-then-not-margins_told c =
-    let b = c.args.t.now in
-    let e = c.in-Table.is in
-    let some : parameters (view b) ≡ 0 → ⊥ = λ x. c.if-o-eq0.false ((c.opening-opened.ensures.opened _ e).counts.parameters_is ∙ sym (parameters_view b) ∙ x) in
-    refused_26 b _ _ _ (opened_accepted c.opening-opened.ensures e) some (sym c.margins_told.ensures ∙ c.if-not-margins_told.true)
+    let e = c.in_ok-r.ensures.ok_part in
+    refused_26 _ _ _ _ (opened_accepted c.opening.ensures e) (some (goal.at.returns-then-not-margins_told c).Else-r-eq0) (opened_told c.opening.ensures e c.margins_told.ensures c.if-not-margins_told.true)
 
 pub returns-then-stream-gt-LONGEST_STREAM : goal.returns-then-stream-gt-LONGEST_STREAM
 returns-then-stream-gt-LONGEST_STREAM c =
-    let b = c.args.t.now in
-    let e = c.in-Table.is in
-    let some : parameters (view b) ≡ 0 → ⊥ = λ x. c.if-o-eq0.false ((c.opening-opened.ensures.opened _ e).counts.parameters_is ∙ sym (parameters_view b) ∙ x) in
-    refused_38 b _ _ _ (opened_accepted c.opening-opened.ensures e) some (sym c.margins_told.ensures ∙ c.if-not-margins_told.false) c.if-stream-gt-LONGEST_STREAM.true
+    let e = c.in_ok-r.ensures.ok_part in
+    refused_38 _ _ _ _ (opened_accepted c.opening.ensures e) (some (goal.at.returns-then-stream-gt-LONGEST_STREAM c).Else-r-eq0) (opened_told c.opening.ensures e c.margins_told.ensures c.if-not-margins_told.false) c.if-stream-gt-LONGEST_STREAM.true
 
 pub search-requires : goal.search-requires
 search-requires c =
-    record { ruled_by = (opened_ruled c.opening-opened.ensures c.in-Table.is, sym c.margins_told.ensures ∙ c.if-not-margins_told.false); stream_len_bound = (c.if-stream-gt-LONGEST_STREAM.false, search rules) }
+    record { told = sym c.margins_told.ensures ∙ c.if-not-margins_told.false; stream_len_bound = (c.if-stream-gt-LONGEST_STREAM.false, search rules) }
 
 pub returns : goal.returns
 returns c =
-    let b = c.args.t.now in
-    let e = c.in-Table.is in
-    let some : parameters (view b) ≡ 0 → ⊥ = λ x. c.if-o-eq0.false ((c.opening-opened.ensures.opened _ e).counts.parameters_is ∙ sym (parameters_view b) ∙ x) in
-    answered b _ _ _ (opened_accepted c.opening-opened.ensures e) some (sym c.margins_told.ensures ∙ c.if-not-margins_told.false) c.if-stream-gt-LONGEST_STREAM.false c.search.ensures.0 c.search.ensures.1
+    let e = c.in_ok-r.ensures.ok_part in
+    let told = opened_told c.opening.ensures e c.margins_told.ensures c.if-not-margins_told.false in
+    let b = c.opening.ensures.of _ e in
+    answered _ _ _ _ (opened_accepted c.opening.ensures e) (some (goal.at.returns c).Else-r-eq0) told c.if-stream-gt-LONGEST_STREAM.false
+    (c.search.ensures.0 ∙ ap (λ (x : Bor (List ℕ)). searched (view x.now) c.args.stream.now c.args.from c.args.words.now) b)
+    (c.search.ensures.1 ∙ ap (λ (x : Bor (List ℕ)). handed_for (view x.now) c.args.stream.now c.args.words.now c.search.result) b)

@@ -1,24 +1,24 @@
 -- The bits of the table's span.
-use mathlib.Core.Path.{sym, ◌∙◌}
-use Rattle.table.proofs.Accepting.{opened_accepted, opened_not, opened_ruled}
+use mathlib.Core.Path.{ap, ◌∙◌}
+use mathlib.Core.List.{List}
+use Prim.Native.Nat.{ℕ}
+use Rattle.std.specs.Borrow.{Bor}
+use Rattle.model.specs.View.{view}
+use Rattle.carding.specs.Layout.{frame_bits}
+use Rattle.table.proofs.Accepting.{opened_accepted, opened_not}
 use Rattle.carding.proofs.CardCases.{bits_none, bits_untold, bits_there}
+use Rattle.card.proofs.Opened.{opened_told}
 use Rattle.card.proofs.card.frame_bits.Goals as goal
 
 pub returns-in_default : goal.returns-in_default
-returns-in_default c = bits_none _ (opened_not c.opening-opened.ensures c.in_default.is)
+returns-in_default c =
+    bits_untold _ (opened_accepted c.opening.ensures c.in-Some.is) (opened_told c.opening.ensures c.in-Some.is c.margins_told.ensures c.if-margins_told.false)
 
-pub margins_told-requires : goal.margins_told-requires
-margins_told-requires c = (opened_ruled c.opening-opened.ensures c.in-Table.is).opened
+pub returns-in_default-2 : goal.returns-in_default-2
+returns-in_default-2 c = bits_none _ (opened_not c.opening.ensures c.in_default.is)
 
-pub returns-then-not-margins_told : goal.returns-then-not-margins_told
-returns-then-not-margins_told c = bits_untold _ (opened_accepted c.opening-opened.ensures c.in-Table.is) (sym c.margins_told.ensures ∙ c.if-not-margins_told.true)
-
-pub span_of-s-requires : goal.span_of-s-requires
-span_of-s-requires c =
-    let r = opened_ruled c.opening-opened.ensures c.in-Table.is in
-    record { opened_of = r.opened; subframes_law = r.ruled.subframes; t_value = sym c.margins_told.ensures ∙ c.if-not-margins_told.false }
-
-pub returns : goal.returns
-returns c =
-    c.span_of-s.ensures.bits_are
-    ∙ bits_there _ (opened_accepted c.opening-opened.ensures c.in-Table.is) (sym c.margins_told.ensures ∙ c.if-not-margins_told.false)
+pub returns-in-Some : goal.returns-in-Some
+returns-in-Some c =
+    c.span_of.ensures.bits_are
+    ∙ ap (λ (x : Bor (List ℕ)). frame_bits (view x.now)) (c.opening.ensures.of _ c.in-Some.is)
+    ∙ bits_there _ (opened_accepted c.opening.ensures c.in-Some.is) (opened_told c.opening.ensures c.in-Some.is c.margins_told.ensures c.if-margins_told.true)

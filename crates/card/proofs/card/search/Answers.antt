@@ -7,18 +7,15 @@ use Rattle.card.proofs.card.search.Goals as goal
 pub returns-then-stream-position : goal.returns-then-stream-position
 returns-then-stream-position c = refused_25 _ _ _ _ c.position_from-position.ensures c.if-stream-position.true
 
-pub bases_of-before-requires : goal.bases_of-before-requires
-bases_of-before-requires c = record { opened_of = c.requires.ruled_by.0.opened; subframes_law = c.requires.ruled_by.0.ruled.subframes }
-
 pub returns-then-words-count : goal.returns-then-words-count
 returns-then-words-count c = refused_28 _ _ _ _ c.position_from-position.ensures c.if-stream-position.false c.frame_words-count.ensures c.if-words-count.true
 
 pub hand_out-requires : goal.hand_out-requires
 hand_out-requires c =
-    record { ruled_by = c.requires.ruled_by.0; begins_of = c.span_of-s.ensures.begins_are; p_bound = omega (arith, c.if-stream-position.false, c.requires.stream_len_bound.0); t_in_bounds = omega (arith, c.if-words-count.false, c.frame_words-count.ensures) }
+    record { p_bound = omega (arith, c.if-stream-position.false, c.requires.stream_len_bound.0); t_in_bounds = omega (arith, c.if-words-count.false, c.frame_words-count.ensures) }
 
 pub overflow_cast-result-2 : goal.overflow_cast-result-2
-overflow_cast-result-2 c = omega (arith, few_words_lem _ c.requires.ruled_by.0.ruled, c.frame_words-count.ensures)
+overflow_cast-result-2 c = omega (arith, few_words_lem _ c.args.r.now.ruled, c.frame_words-count.ensures)
 
 pub returns : goal.returns
 returns c = handed_out _ _ _ _ c.position_from-position.ensures c.if-stream-position.false c.frame_words-count.ensures c.if-words-count.false c.hand_out.ensures

@@ -9,61 +9,52 @@ use Rattle.card.proofs.hand.hand_out.Goals as goal
 
 pub loop-i-init : goal.loop-i-init
 loop-i-init c =
-    let s = c in
-    handed_none s.args.t.now s.args.stream.now s.args.p _ _ s.requires.ruled_by.opened.counts.subframes_is s.requires.t_in_bounds
+    handed_none c.args.s.now.ruled.declared.table.bytes.now c.args.stream.now c.args.p _ _ c.args.s.now.ruled.declared.table.opened_of.counts.subframes_is c.requires.t_in_bounds
 
 pub subframe_at-f-requires : goal.subframe_at-f-requires
-subframe_at-f-requires c = record { opened_of = c.requires.ruled_by.opened; i_bound = omega (arith, c.loop-i.invariant, c.loop-i-test.true) }
+subframe_at-f-requires c = record { i_bound = omega (arith, c.loop-i.invariant, c.loop-i-test.true) }
 
-pub offset_bounds-begins-i : goal.offset_bounds-begins-i
-offset_bounds-begins-i c = omega (arith, c.loop-i.invariant, c.loop-i-test.true, c.requires.ruled_by.opened.sized.few_subframes)
+pub offset_bounds-s-i : goal.offset_bounds-s-i
+offset_bounds-s-i c = omega (arith, c.loop-i.invariant, c.loop-i-test.true, c.args.s.now.ruled.declared.table.opened_of.sized.few_subframes)
 
-pub bounds-begins-i : goal.bounds-begins-i
-bounds-begins-i c = omega (arith, c.loop-i.invariant, c.loop-i-test.true, c.requires.ruled_by.opened.sized.few_subframes)
+pub bounds-s-i : goal.bounds-s-i
+bounds-s-i c = omega (arith, c.loop-i.invariant, c.loop-i-test.true, c.args.s.now.ruled.declared.table.opened_of.sized.few_subframes)
 
 pub overflow_add-p : goal.overflow_add-p
 overflow_add-p c =
-    let h = c.requires.begins_of.small c.loop-i.i (omega (arith, c.loop-i.invariant, c.loop-i-test.true)) in
+    let h = c.args.s.now.begins_of.small c.loop-i.i (omega (arith, c.loop-i.invariant, c.loop-i-test.true)) in
     record { fits = omega (arith, h, c.requires.p_bound) }
 
 pub hand_row-requires : goal.hand_row-requires
 hand_row-requires c =
-    let s = c in
-    let b = s.args.t.now in
+    let b = c.args.s.now.ruled.declared.table.bytes.now in
     let v = c.loop-i.invariant in
     let i = c.loop-i.i in
     let l : i < subframes_in b = omega (arith, v, c.loop-i-test.true) in
-    let h = s.requires.begins_of.small i l in
+    let h = c.args.s.now.begins_of.small i l in
     let e = c.subframe_at-f.ensures in
-    let n = narrow_there b i l s.requires.ruled_by.ruled.subframes in
-    record { bits_le_bits = (omega (arith, e, n), omega (arith, e, n), omega (arith, h, s.requires.p_bound)); count_in_bounds = omega (arith, v.long, next_room _ _ _ v c.loop-i-test.true, words_are b i l, e) }
+    let n = narrow_there b i l c.args.s.now.ruled.ruled.subframes in
+    record { bits_le_bits = (omega (arith, e, n), omega (arith, e, n), omega (arith, h, c.requires.p_bound)); count_in_bounds = omega (arith, v.long, next_room _ _ _ v c.loop-i-test.true, words_are b i l, e) }
 
 pub overflow_add-at : goal.overflow_add-at
 overflow_add-at c =
-    let b = c.args.t.now in
+    let b = c.args.s.now.ruled.declared.table.bytes.now in
     let v = c.loop-i.invariant in
     let i = c.loop-i.i in
     let l : i < subframes_in b = omega (arith, v, c.loop-i-test.true) in
     let e = c.subframe_at-f.ensures in
-    record { fits = omega (arith, next_inside _ _ _ v c.loop-i-test.true, few_words_lem b c.requires.ruled_by.ruled, words_are b i l, e) }
-
-pub overflow_add-i : goal.overflow_add-i
-overflow_add-i c = record { fits = omega (arith, c.loop-i.invariant, c.loop-i-test.true, c.requires.ruled_by.opened.sized.few_subframes) }
-
-pub loop-i-smaller : goal.loop-i-smaller
-loop-i-smaller c = omega (arith, c.loop-i.invariant, c.loop-i-test.true)
+    record { fits = omega (arith, next_inside _ _ _ v c.loop-i-test.true, few_words_lem b c.args.s.now.ruled.ruled, words_are b i l, e) }
 
 pub loop-i-preserved : goal.loop-i-preserved
 loop-i-preserved c =
-    let s = c in
-    let b = s.args.t.now in
+    let b = c.args.s.now.ruled.declared.table.bytes.now in
     let v = c.loop-i.invariant in
     let i = c.loop-i.i in
     let l : i < subframes_in b = omega (arith, v, c.loop-i-test.true) in
     let e = c.subframe_at-f.ensures in
     handed_more _ _ _ v c.loop-i-test.true
     (c.hand_row.ensures
-    ∙ ap (put c.loop-i.words c.loop-i.at) (row_read b s.args.stream.now s.args.p i l _ _ _ (s.requires.begins_of.each i l) e.bits_is e.words_is))
+    ∙ ap (put c.loop-i.words c.loop-i.at) (row_read b c.args.stream.now c.args.p i l _ _ _ (c.args.s.now.begins_of.each i l) e.bits_is e.words_is))
     (e.words_is ∙ sym (words_are b i l))
 
 pub returns : goal.returns

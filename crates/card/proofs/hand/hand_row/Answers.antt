@@ -37,13 +37,9 @@ bounds-words-at c = omega (arith, c.loop-w.invariant, c.loop-w-test.true)
 
 pub overflow_add-place : goal.overflow_add-place
 overflow_add-place c =
-    let s = c in
     let v = c.loop-w.invariant in
-    let w : c.loop-w.w ≤ sheet_limits.words = omega (arith, v.bound, s.requires.bits_le_bits.1) in
-    record { fits = omega (arith, v.stands, mul-le-mul w s.requires.bits_le_bits.0, s.requires.bits_le_bits) }
-
-pub loop-w-smaller : goal.loop-w-smaller
-loop-w-smaller c = omega (arith, c.loop-w.invariant, c.loop-w-test.true)
+    let w : c.loop-w.w ≤ sheet_limits.words = omega (arith, v.bound, c.requires.bits_le_bits.1) in
+    record { fits = omega (arith, v.stands, mul-le-mul w c.requires.bits_le_bits.0, c.requires.bits_le_bits) }
 
 pub loop-w-preserved : goal.loop-w-preserved
 loop-w-preserved c =

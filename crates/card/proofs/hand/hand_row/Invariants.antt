@@ -1,7 +1,7 @@
 -- The first w words stand from `at` on, and nothing else is changed.
 use mathlib.Core.Path.{◌≡◌}
 use mathlib.Core.List.{List}
-use Prim.Native.Nat.{ℕ, ◌+◌, ◌-◌, ◌*◌, ◌≤◌}
+use Prim.Native.Nat.{ℕ, ◌+◌, ◌*◌, ◌≤◌}
 use lib.ListN.{length, take}
 use Rattle.lay.specs.Below.{tab}
 use Rattle.lay.specs.Bytes.{put}
@@ -21,6 +21,3 @@ pub record Inv (y : List ℕ) (k bits count : ℕ) (out₀ : List ℕ) (at : ℕ
 
 abbrev pub invariant-loop-w : goal.invariant-loop-w
 invariant-loop-w l = Inv l.stream l.k l.bits l.count l.initial.words l.at l.words l.place l.w
-
-abbrev pub decreases-loop-w : goal.decreases-loop-w
-decreases-loop-w l = l.count - l.w

@@ -4,29 +4,30 @@ use native.Mathlib.Omega.{arith}
 use borrow.Author.Count.{below_more}
 use borrow.Author.Tests.{not-true, not-false}
 use Rattle.model.specs.Limits.{Limits}
+use Prim.Native.Nat.{◌<◌}
+use Rattle.model.specs.Stored.{subframes_in}
 use Rattle.stored.proofs.Reading.{known_here, bounds_are}
 use Rattle.card.proofs.MarginLaws.{known_made, known_told, untold_form, untold_leading, untold_trailing}
+use Rattle.card.proofs.margins.margins_told.Goals.{then-f-eq-BLANK_MARGIN-via-then-f-eq-BLANK_MARGIN, then-f-eq-BLANK_MARGIN-via-else-f-eq-BLANK_MARGIN+then-f-eq-BLANK_MARGIN-2}
 use Rattle.card.proofs.margins.margins_told.Goals as goal
 
-pub bounds_of-most-requires : goal.bounds_of-most-requires
-bounds_of-most-requires c = known_here c.requires.sized.formed c.requires.form_is
+pub bounds_of-requires : goal.bounds_of-requires
+bounds_of-requires c = known_here c.args.t.now.opened_of.sized.formed c.args.t.now.opened_of.form_is
 
-pub returns-then-not-most : goal.returns-then-not-most
-returns-then-not-most c = untold_form _ (sym (ap (λ (l : Limits). l.blank) (bounds_are _ c.requires.form_is c.bounds_of-most.ensures)) ∙ not-true _ c.if-not-most.true)
+pub returns-then-not-bounds_of : goal.returns-then-not-bounds_of
+returns-then-not-bounds_of c = untold_form _ (sym (ap (λ (l : Limits). l.blank) (bounds_are _ c.args.t.now.opened_of.form_is c.bounds_of.ensures)) ∙ not-true _ c.if-not-bounds_of.true)
 
 pub loop-i-init : goal.loop-i-init
-loop-i-init c = record { counted = c.requires.counts.subframes_is; within = omega arith; each = λ k l. absurd (not-suc-le-zero l) }
+loop-i-init c = record { counted = c.args.t.now.opened_of.counts.subframes_is; within = omega arith; each = λ k l. absurd (not-suc-le-zero l) }
 
 pub returns-then-f-eq-BLANK_MARGIN : goal.returns-then-f-eq-BLANK_MARGIN
 returns-then-f-eq-BLANK_MARGIN c =
-    untold_leading c.args.t.now c.loop-i.i (omega (arith, c.loop-i.invariant, c.loop-i-test.true)) (sym c.subframe_at-f.ensures.leading_is ∙ c.if-f-eq-BLANK_MARGIN.true)
-
-pub returns-then-f-eq-BLANK_MARGIN-2 : goal.returns-then-f-eq-BLANK_MARGIN-2
-returns-then-f-eq-BLANK_MARGIN-2 c =
-    untold_trailing c.args.t.now c.loop-i.i (omega (arith, c.loop-i.invariant, c.loop-i-test.true)) (sym c.subframe_at-f.ensures.trailing_is ∙ c.if-f-eq-BLANK_MARGIN-2.true)
-
-pub loop-i-smaller : goal.loop-i-smaller
-loop-i-smaller c = omega (arith, c.loop-i.invariant, c.loop-i-test.true)
+    let here : c.loop-i.i < subframes_in c.args.t.now.bytes.now = omega (arith, c.loop-i.invariant, c.loop-i-test.true) in
+    let e = c.subframe_at-f.ensures in
+    elim c.then-f-eq-BLANK_MARGIN.branch [
+      | then-f-eq-BLANK_MARGIN-via-then-f-eq-BLANK_MARGIN w ↦ untold_leading _ c.loop-i.i here (sym e.leading_is ∙ w.if-f-eq-BLANK_MARGIN.true)
+      | then-f-eq-BLANK_MARGIN-via-else-f-eq-BLANK_MARGIN+then-f-eq-BLANK_MARGIN-2 w ↦ untold_trailing _ c.loop-i.i here (sym e.trailing_is ∙ w.if-f-eq-BLANK_MARGIN-2.true)
+    ]
 
 pub loop-i-preserved : goal.loop-i-preserved
 loop-i-preserved c =
@@ -46,5 +47,5 @@ loop-i-preserved c =
 pub returns : goal.returns
 returns c =
     let v = c.loop-i.invariant in
-    known_told c.args.t.now (sym (ap (λ (l : Limits). l.blank) (bounds_are _ c.requires.form_is c.bounds_of-most.ensures)) ∙ not-false _ c.if-not-most.false)
+    known_told c.args.t.now.bytes.now (sym (ap (λ (l : Limits). l.blank) (bounds_are _ c.args.t.now.opened_of.form_is c.bounds_of.ensures)) ∙ not-false _ c.if-not-bounds_of.false)
     (λ i l. v.each i (omega (arith, v, c.loop-i-test.false)))

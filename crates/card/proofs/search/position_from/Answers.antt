@@ -4,22 +4,18 @@ use Rattle.model.specs.View.{view}
 use Rattle.card.proofs.Searching.{walk_starts, walk_more, walk_found, walk_ends, walk_sifted}
 use Rattle.card.proofs.search.position_from.Goals as goal
 
-pub sieve_of-s-requires : goal.sieve_of-s-requires
-sieve_of-s-requires c = record { ruled_by = c.requires.ruled_by; begins_of = c.requires.begins_of }
-
 pub overflow_mul-end : goal.overflow_mul-end
 overflow_mul-end c = record { fits = omega (arith, c.requires.stream_len_bound.0) }
 
 pub next_sifted-p-requires : goal.next_sifted-p-requires
 next_sifted-p-requires c =
-    record { stream_len_bound = (c.requires.stream_len_bound.0, omega (arith, c.requires.stream_len_bound.1)); shaped = c.sieve_of-s.ensures.shaped }
+    record { stream_len_bound = (c.requires.stream_len_bound.0, omega (arith, c.requires.stream_len_bound.1)); shaped = c.sieve_of-sieve.ensures.shaped }
 
 pub loop-p-init : goal.loop-p-init
 loop-p-init c =
-    let s = c in
     let n = c.next_sifted-p.ensures in (
-      walk_sifted _ _ _ _ (walk_starts (view s.args.t.now) s.args.stream.now s.args.from _ _ s.requires.bits_value.0 refl) c.sieve_of-s.ensures n,
-      omega (arith, s.requires.stream_len_bound, n.near),
+      walk_sifted _ _ _ _ (walk_starts (view c.args.s.now.ruled.declared.table.bytes.now) c.args.stream.now c.args.from _ _ c.requires.bits_value.0 refl) c.sieve_of-sieve.ensures n,
+      omega (arith, c.requires.stream_len_bound, n.near),
     )
 
 pub overflow_add-p : goal.overflow_add-p
@@ -27,8 +23,7 @@ overflow_add-p c = record { fits = omega (arith, c.loop-p.invariant.1, c.require
 
 pub agrees_sifted-requires : goal.agrees_sifted-requires
 agrees_sifted-requires c =
-    let s = c in
-    record { ruled_by = s.requires.ruled_by; begins_of = s.requires.begins_of; p_bound = omega (arith, c.loop-p-test.true, s.requires.stream_len_bound.0); sieve_of = c.sieve_of-s.ensures }
+    record { p_bound = omega (arith, c.loop-p-test.true, c.requires.stream_len_bound.0); sieve_of = c.sieve_of-sieve.ensures }
 
 pub returns-then-agrees_sifted : goal.returns-then-agrees_sifted
 returns-then-agrees_sifted c = walk_found _ _ _ c.loop-p.invariant.0 c.loop-p-test.true (sym c.agrees_sifted.ensures ∙ c.if-agrees_sifted.true)
@@ -38,7 +33,7 @@ overflow_add-p-in-loop-p c = record { fits = omega (arith, c.loop-p.invariant.1)
 
 pub next_sifted-p-requires-in-loop-p : goal.next_sifted-p-requires-in-loop-p
 next_sifted-p-requires-in-loop-p c =
-    record { stream_len_bound = (c.requires.stream_len_bound.0, omega (arith, c.requires.stream_len_bound.0, c.loop-p-test.true)); shaped = c.sieve_of-s.ensures.shaped }
+    record { stream_len_bound = (c.requires.stream_len_bound.0, omega (arith, c.requires.stream_len_bound.0, c.loop-p-test.true)); shaped = c.sieve_of-sieve.ensures.shaped }
 
 pub loop-p-smaller : goal.loop-p-smaller
 loop-p-smaller c = omega (arith, c.loop-p-test.true, c.next_sifted-p-in-loop-p.ensures.after)
@@ -46,7 +41,7 @@ loop-p-smaller c = omega (arith, c.loop-p-test.true, c.next_sifted-p-in-loop-p.e
 pub loop-p-preserved : goal.loop-p-preserved
 loop-p-preserved c =
     let n = c.next_sifted-p-in-loop-p.ensures in (
-      walk_sifted _ _ _ _ (walk_more _ _ _ c.loop-p.invariant.0 (sym c.agrees_sifted.ensures ∙ c.if-agrees_sifted.false)) c.sieve_of-s.ensures n,
+      walk_sifted _ _ _ _ (walk_more _ _ _ c.loop-p.invariant.0 (sym c.agrees_sifted.ensures ∙ c.if-agrees_sifted.false)) c.sieve_of-sieve.ensures n,
       omega (arith, c.requires.stream_len_bound.0, c.loop-p-test.true, n.near),
     )
 

@@ -5,5 +5,4 @@ use Rattle.card.proofs.sieve.agrees_sifted.Goals as goal
 
 pub returns-then-not-sifts : goal.returns-then-not-sifts
 returns-then-not-sifts c =
-    let s = c in
-    kept_back s.args.t.now s.args.stream.now s.args.p _ s.requires.sieve_of (sym c.sifts.ensures ∙ c.if-not-sifts.true)
+    kept_back c.args.s.now.ruled.declared.table.bytes.now c.args.stream.now c.args.p _ c.requires.sieve_of (sym c.sifts.ensures ∙ c.if-not-sifts.true)

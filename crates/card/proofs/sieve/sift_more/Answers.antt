@@ -17,22 +17,20 @@ returns-then-not-has_identifier c = c.requires.sieve_of
 
 pub sample_at-m-requires : goal.sample_at-m-requires
 sample_at-m-requires c =
-    let s = c in
-    let b = s.args.t.now in
-    let i = s.args.i in
-    let l = s.requires.i_bound in
-    let m = listed_at b i 0 s.requires.ruled_by.ruled l (first_one b i s.requires.ruled_by.ruled l) in
+    let b = c.args.s.now.ruled.declared.table.bytes.now in
+    let i = c.args.i in
+    let l = c.requires.i_bound in
+    let m = listed_at b i 0 c.args.s.now.ruled.ruled l (first_one b i c.args.s.now.ruled.ruled l) in
     let e = c.parameter_at-e.ensures in
     let q : c.parameter_at-e.result.first ≡ first_sample_in b i + 0 = omega (arith, e) in
-    record { opened_of = s.requires.ruled_by.opened; j_bound = (here_at b i 0 m q).here }
+    record { j_bound = (here_at b i 0 m q).here }
 
 pub loop-k-init : goal.loop-k-init
 loop-k-init c =
-    let s = c in
-    let b = s.args.t.now in
-    let i = s.args.i in
-    let r = s.requires.ruled_by.ruled in
-    let l = s.requires.i_bound in
+    let b = c.args.s.now.ruled.declared.table.bytes.now in
+    let i = c.args.i in
+    let r = c.args.s.now.ruled.ruled in
+    let l = c.requires.i_bound in
     let m = listed_at b i 0 r l (first_one b i r l) in
     let e = c.parameter_at-e.ensures in
     let q : first_sample_in b i ≡ first_sample_in b i + 0 = omega arith in
@@ -40,39 +38,35 @@ loop-k-init c =
     let flag = sym (identifier_flag b i e.flags_is c.has_identifier.ensures) ∙ c.if-not-has_identifier.false in
     record {
       along = along_none (is.first_is ∙ ap (first_component_in b) e.first_is) (is.count_is ∙ ap (component_count_in b) e.first_is) r (law_at b i 0 m q);
-      sieve = s.requires.sieve_of;
+      sieve = c.requires.sieve_of;
       held = λ y p h. ap (holds (subframes_of b) (frame_at (view b) y p) (sample_at b (first_sample_in b i))) e.value_is ∙ value_held b i r l flag y p h;
     }
 
 pub run_at-c-requires : goal.run_at-c-requires
 run_at-c-requires c =
-    let s = c in
-    let b = s.args.t.now in
-    let i = s.args.i in
-    let l = s.requires.i_bound in
-    let m = listed_at b i 0 s.requires.ruled_by.ruled l (first_one b i s.requires.ruled_by.ruled l) in
+    let b = c.args.s.now.ruled.declared.table.bytes.now in
+    let i = c.args.i in
+    let l = c.requires.i_bound in
+    let m = listed_at b i 0 c.args.s.now.ruled.ruled l (first_one b i c.args.s.now.ruled.ruled l) in
     let v = c.loop-k.invariant.along in
     let t = c.loop-k-test.true in
     let q : first_sample_in b i ≡ first_sample_in b i + 0 = omega arith in
-    record { opened_of = s.requires.ruled_by.opened; k_bound = omega (arith, v.firsts, v.counted, t, here_at b i 0 m q); subframes_law = s.requires.ruled_by.ruled.subframes; begins_of = s.requires.begins_of; component_law = law_here v t }
+    record { k_bound = omega (arith, v.firsts, v.counted, t, here_at b i 0 m q); begins_of = c.args.s.now.begins_of; component_law = law_here v t }
 
 pub field_of-requires : goal.field_of-requires
 field_of-requires c =
     (omega (arith, place_narrow c.loop-k.invariant.along c.loop-k-test.true), omega (arith, c.run_at-c.ensures.few))
 
-pub with-s-requires : goal.with-s-requires
-with-s-requires c =
+pub with-more-requires : goal.with-more-requires
+with-more-requires c =
     let e = c.run_at-c.ensures in
     record { shaped = c.loop-k.invariant.sieve.shaped; at_le_most_run_at = (e.small, e.few) }
 
 pub overflow_add-at : goal.overflow_add-at
 overflow_add-at c = omega (arith, next_narrow c.loop-k.invariant.along c.loop-k-test.true c.run_at-c.ensures)
 
-pub loop-k-smaller : goal.loop-k-smaller
-loop-k-smaller c = omega (arith, c.loop-k-test.true)
-
 pub loop-k-preserved : goal.loop-k-preserved
-loop-k-preserved c = sifting_more c.loop-k.invariant c.loop-k-test.true c.run_at-c.ensures c.field_of.ensures c.with-s.ensures
+loop-k-preserved c = sifting_more c.loop-k.invariant c.loop-k-test.true c.run_at-c.ensures c.field_of.ensures c.with-more.ensures
 
 pub returns : goal.returns
 returns c = c.loop-k.invariant.sieve

@@ -9,74 +9,67 @@ use Rattle.card.proofs.SpanLaws.{inside, narrow_there, component_there}
 use Rattle.card.proofs.spans.run_at.Goals as goal
 
 pub overflow_sub-home : goal.overflow_sub-home
-overflow_sub-home c = omega (arith, c.component_at-c.ensures, inside _ _ c.requires.subframes_law c.requires.component_law)
+overflow_sub-home c = omega (arith, c.component_at-c.ensures, inside _ _ c.args.d.now.subframes_law c.requires.component_law)
 
 pub subframe_at-f-requires : goal.subframe_at-f-requires
 subframe_at-f-requires c =
-    let s = c in
-    record { opened_of = s.requires.opened_of; i_bound = omega (arith, c.component_at-c.ensures, inside _ _ s.requires.subframes_law s.requires.component_law) }
+    record { i_bound = omega (arith, c.component_at-c.ensures, inside _ _ c.args.d.now.subframes_law c.requires.component_law) }
 
 pub offset_bounds-begins-home : goal.offset_bounds-begins-home
 offset_bounds-begins-home c =
-    let s = c in
-    omega (arith, c.component_at-c.ensures, inside _ _ s.requires.subframes_law s.requires.component_law, s.requires.opened_of.sized.few_subframes)
+    omega (arith, c.component_at-c.ensures, inside _ _ c.args.d.now.subframes_law c.requires.component_law, c.args.d.now.table.opened_of.sized.few_subframes)
 
 pub bounds-begins-home : goal.bounds-begins-home
 bounds-begins-home c =
-    let s = c in
-    omega (arith, c.component_at-c.ensures, inside _ _ s.requires.subframes_law s.requires.component_law, s.requires.opened_of.sized.few_subframes)
+    omega (arith, c.component_at-c.ensures, inside _ _ c.args.d.now.subframes_law c.requires.component_law, c.args.d.now.table.opened_of.sized.few_subframes)
 
 pub overflow_sub-c : goal.overflow_sub-c
-overflow_sub-c c = omega (arith, c.component_at-c.ensures, inside _ _ c.requires.subframes_law c.requires.component_law)
+overflow_sub-c c = omega (arith, c.component_at-c.ensures, inside _ _ c.args.d.now.subframes_law c.requires.component_law)
 
 pub overflow_sub-c-2 : goal.overflow_sub-c-2
-overflow_sub-c-2 c = omega (arith, c.component_at-c.ensures, inside _ _ c.requires.subframes_law c.requires.component_law)
+overflow_sub-c-2 c = omega (arith, c.component_at-c.ensures, inside _ _ c.args.d.now.subframes_law c.requires.component_law)
 
 pub bit_of-at-requires : goal.bit_of-at-requires
 bit_of-at-requires c =
-    let s = c in
-    let f = inside s.args.t.now s.args.k s.requires.subframes_law s.requires.component_law in
+    let f = inside c.args.d.now.table.bytes.now c.args.k c.args.d.now.subframes_law c.requires.component_law in
     let e = c.component_at-c.ensures in
     let home : ℕ = c.component_at-c.result.subframe - 1 in
-    let l : home < subframes_in s.args.t.now = omega (arith, e, f) in
-    let w = narrow_there s.args.t.now home l s.requires.subframes_law in
-    (s.requires.begins_of.small home l, omega (arith, e, f), omega (arith, c.subframe_at-f.ensures, w), omega (arith, e, f))
+    let l : home < subframes_in c.args.d.now.table.bytes.now = omega (arith, e, f) in
+    let w = narrow_there c.args.d.now.table.bytes.now home l c.args.d.now.subframes_law in
+    (c.requires.begins_of.small home l, omega (arith, e, f), omega (arith, c.subframe_at-f.ensures, w), omega (arith, e, f))
 
 pub overflow_add-bits : goal.overflow_add-bits
-overflow_add-bits c = omega (arith, c.component_at-c.ensures, inside _ _ c.requires.subframes_law c.requires.component_law)
+overflow_add-bits c = omega (arith, c.component_at-c.ensures, inside _ _ c.args.d.now.subframes_law c.requires.component_law)
 
 pub overflow_sub-bits : goal.overflow_sub-bits
-overflow_sub-bits c = omega (arith, c.component_at-c.ensures, inside _ _ c.requires.subframes_law c.requires.component_law)
+overflow_sub-bits c = omega (arith, c.component_at-c.ensures, inside _ _ c.args.d.now.subframes_law c.requires.component_law)
 
 pub overflow_cast-bits : goal.overflow_cast-bits
-overflow_cast-bits c = omega (arith, c.component_at-c.ensures, inside _ _ c.requires.subframes_law c.requires.component_law)
+overflow_cast-bits c = omega (arith, c.component_at-c.ensures, inside _ _ c.args.d.now.subframes_law c.requires.component_law)
 
 pub overflow_cast-given : goal.overflow_cast-given
 overflow_cast-given c =
-    let s = c in
-    omega (arith, c.component_at-c.ensures, inside _ _ s.requires.subframes_law s.requires.component_law)
+    omega (arith, c.component_at-c.ensures, inside _ _ c.args.d.now.subframes_law c.requires.component_law)
 
 pub overflow_sub-given : goal.overflow_sub-given
 overflow_sub-given c =
-    let s = c in
-    omega (arith, c.component_at-c.ensures, inside _ _ s.requires.subframes_law s.requires.component_law)
+    omega (arith, c.component_at-c.ensures, inside _ _ c.args.d.now.subframes_law c.requires.component_law)
 
 pub returns : goal.returns
 unfolding whole piece component_at
 returns c =
-    let s = c in
-    let f = inside s.args.t.now s.args.k s.requires.subframes_law s.requires.component_law in
+    let f = inside c.args.d.now.table.bytes.now c.args.k c.args.d.now.subframes_law c.requires.component_law in
     let e = c.component_at-c.ensures in
-    let b = s.args.t.now in
-    let k = s.args.k in
+    let b = c.args.d.now.table.bytes.now in
+    let k = c.args.k in
     let home : ℕ = c.component_at-c.result.subframe - 1 in
     let q : home ≡ home_in b k - 1 = ap (λ (x : ℕ). x - 1) e.subframe_is in
     let l : home < subframes_in b = omega (arith, e, f) in
-    let begin = s.requires.begins_of.each home l in
+    let begin = c.requires.begins_of.each home l in
     let bits = c.subframe_at-f.ensures.bits_is in
     let at = c.bit_of-at.ensures in
     record {
-      at_is = at.0 ∙ rw (begin, bits, q, e.word_is, e.low_is) (sym (component_there b k s.requires.subframes_law s.requires.component_law));
+      at_is = at.0 ∙ rw (begin, bits, q, e.word_is, e.low_is) (sym (component_there b k c.args.d.now.subframes_law c.requires.component_law));
       bits_is = ap₂ (λ (x y : ℕ). x + 1 - y) e.high_is e.low_is;
       given_is = omega (arith, e.high_is, e.low_is, e.overlap_is, f.lapped);
       few = omega (arith, e, f);

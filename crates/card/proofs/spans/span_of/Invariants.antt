@@ -1,7 +1,7 @@
 -- Before subframe i stand the bits of the subframes passed.
 use mathlib.Core.Path.{◌≡◌}
 use mathlib.Core.List.{List}
-use Prim.Native.Nat.{ℕ, ◌-◌, ◌*◌, ◌≤◌, ◌<◌}
+use Prim.Native.Nat.{ℕ, ◌*◌, ◌≤◌, ◌<◌}
 use lib.ListN.{length, get_or}
 use Rattle.model.specs.Forms.{sheet_limits}
 use Rattle.model.specs.Stored.{subframes_in}
@@ -20,7 +20,4 @@ pub record Passed (b : List ℕ) (count : ℕ) (list : List ℕ) (sum i : ℕ) :
   pub low : (k : ℕ) → k < i → get_or list k 0 ≤ most_frame_bits
 
 abbrev pub invariant-loop-i : goal.invariant-loop-i
-invariant-loop-i l = Passed l.t l.subframes l.begins l.sum l.i
-
-abbrev pub decreases-loop-i : goal.decreases-loop-i
-decreases-loop-i l = l.subframes - l.i
+invariant-loop-i l = Passed l.d.table.bytes.now l.d.table.opened.counts.subframes l.begins l.sum l.i
