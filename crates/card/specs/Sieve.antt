@@ -1,54 +1,34 @@
 -- The sieve: rows of bits that every frame with agreeing identifiers has.
-use Rattle.std.specs.Prelude.{◌≡◌, Bool, true, false, List, ℕ, ◌+◌, ◌*◌, ◌≤◌, ◌<◌, eqb, length, get_or}
-use Rattle.lay.specs.Below.{all}
+use Rattle.std.specs.Prelude.{◌≡◌, Bool, true, false, List, ℕ, ◌+◌, ◌*◌, ◌≤◌, ◌<◌, eqb, length, take}
+use Rattle.std.specs.List.{list_all}
 use Rattle.stream.specs.Stream.{bits_from}
-use Rattle.model.specs.Forms.{sheet_limits}
 use Rattle.model.specs.View.{view}
-use Rattle.card.specs.declared.sieve.Sieve.{Sieve}
+use Rattle.card.specs.declared.rows.Row.{Row}
+use Rattle.card.specs.declared.rows.Sieve.{Sieve}
 use Rattle.carding.specs.Search.{agrees_at}
-use Rattle.card.specs.Promise.{most_run_at}
 
--- so many rows at most
-abbrev pub most_rows : ℕ
-most_rows = 64
+-- the rows that count
+abbrev pub rows_of : Sieve → List Row
+rows_of s = take s.count s.list
 
-pub record SieveRows : Type 0 where
-  pub ats : List ℕ
-  pub widths : List ℕ
-  pub wants : List ℕ
-  pub count : ℕ
+-- a row holds in the frame at p
+unfoldable pub row_holds : List ℕ → ℕ → Row → Bool
+row_holds y p r = eqb (bits_from y (p + r.at) r.width) r.want
 
-abbrev pub rows : List ℕ → List ℕ → List ℕ → ℕ → SieveRows
-rows ats widths wants count = record { ats = ats; widths = widths; wants = wants; count = count }
-
-abbrev pub rows_of : Sieve → SieveRows
-rows_of s = rows s.ats s.widths s.wants s.count
-
--- row e holds in the frame at p
-unfoldable pub sifts_one : List ℕ → ℕ → SieveRows → ℕ → Bool
-sifts_one y p s e = eqb (bits_from y (p + get_or s.ats e 0) (get_or s.widths e 0)) (get_or s.wants e 0)
-
-unfoldable pub sifts_at : List ℕ → ℕ → SieveRows → Bool
-sifts_at y p s = all s.count (sifts_one y p s)
-
--- few rows, each of few bits, near the frame's first
-pub record Shaped (s : SieveRows) : Type 0 where
-  pub few : s.count ≤ most_rows
-  pub narrow : (e : ℕ) → e < s.count → get_or s.widths e 0 ≤ sheet_limits.bits
-  pub near : (e : ℕ) → e < s.count → get_or s.ats e 0 ≤ most_run_at
+-- and all do
+abbrev pub sifts_at : List ℕ → ℕ → List Row → Bool
+sifts_at y p rows = list_all (row_holds y p) rows
 
 -- r keeps back no more than s and the row do
-pub record With (s : SieveRows) (at width want : ℕ) (r : SieveRows) : Type 0 where
-  pub shaped : Shaped r
-  pub sifts : (y : List ℕ) (p : ℕ) → sifts_at y p s ≡ true → bits_from y (p + at) width ≡ want → sifts_at y p r ≡ true
+pub record With (s : List Row) (row : Row) (r : List Row) : Type 0 where
+  pub sifts : (y : List ℕ) (p : ℕ) → sifts_at y p s ≡ true → row_holds y p row ≡ true → sifts_at y p r ≡ true
 
 -- r lies at or behind p, and the sieve keeps back every position between
-pub record NextSifted (y : List ℕ) (p : ℕ) (s : SieveRows) (r : ℕ) : Type 0 where
+pub record NextSifted (y : List ℕ) (p : ℕ) (s : List Row) (r : ℕ) : Type 0 where
   pub after : p ≤ r
   pub kept_back : (k : ℕ) → p ≤ k → k < r → sifts_at y k s ≡ false
   pub near : r ≤ p + 8 * length y
 
 -- no frame of the table b whose identifiers agree is kept back
-pub record SieveOf (b : List ℕ) (s : SieveRows) : Type 0 where
-  pub shaped : Shaped s
+pub record SieveOf (b : List ℕ) (s : List Row) : Type 0 where
   pub needed : (y : List ℕ) (p : ℕ) → agrees_at (view b) y p ≡ true → sifts_at y p s ≡ true

@@ -24,10 +24,7 @@ fn search(r: &RuledTable, stream: &[u8], from: usize, words: &mut [u16]) -> Resu
     let span = span_of(&r.declared);
     let begins = span.begins;
     let s = SpannedTable { ruled: *r, begins };
-    let position = position_from(&s, stream, from, span.bits);
-    if 8 * stream.len() < position {
-        return Err(Reason::NoFrame);
-    }
+    let position = position_from(&s, stream, from, span.bits).ok_or(Reason::NoFrame)?;
     let count = frame_words(r);
     if words.len() < count {
         return Err(Reason::FewWords);

@@ -5,6 +5,7 @@ pub mod agree;
 pub mod card;
 pub mod hand;
 pub mod margins;
+pub mod rows;
 pub mod search;
 pub mod sieve;
 pub mod spanned;

@@ -1,21 +1,40 @@
 -- 25, 28, or the frame.
+use mathlib.Core.Path.{refl, sym, ◌∙◌}
 use native.Mathlib.Omega.{arith}
+use Rattle.model.specs.View.{view}
 use Rattle.carding.proofs.CardCases.{refused_25, refused_28, handed_out}
+use Rattle.card.proofs.Opened.{none_out}
+use Rattle.card.proofs.Searching.{FoundAt, none_found, found_there}
 use Rattle.card.proofs.SpanLaws.{few_words_lem}
+use Rattle.card.proofs.card.search.Goals.{In_ok-position}
 use Rattle.card.proofs.card.search.Goals as goal
 
-pub returns-then-stream-position : goal.returns-then-stream-position
-returns-then-stream-position c = refused_25 _ _ _ _ c.position_from-position.ensures c.if-stream-position.true
+pub returns-in_err-position : goal.returns-in_err-position
+returns-in_err-position c =
+    rw (none_out c.position_from.result c.from_residual.result c.from_residual.ensures.1 c.in_err-position.ensures.value)
+    (refused_25 _ _ _ _ refl (none_found _ _ _ (sym c.in_err-position.ensures.ok_part ∙ c.position_from.ensures)))
+
+found : (c : In_ok-position) → FoundAt (view c.args.r.now.declared.table.bytes.now) c.args.stream.now c.args.from c.in_ok-position.position
+found c = found_there _ _ _ (sym c.in_ok-position.ensures.ok_part ∙ c.position_from.ensures)
 
 pub returns-then-words-count : goal.returns-then-words-count
-returns-then-words-count c = refused_28 _ _ _ _ c.position_from-position.ensures c.if-stream-position.false c.frame_words-count.ensures c.if-words-count.true
+returns-then-words-count c =
+    let f = found (goal.at.returns-then-words-count c).In_ok-position in
+    refused_28 _ _ _ _ f.is f.inside c.frame_words-count.ensures c.if-words-count.true
 
 pub hand_out-requires : goal.hand_out-requires
 hand_out-requires c =
-    record { p_bound = omega (arith, c.if-stream-position.false, c.requires.stream_len_bound.0); t_in_bounds = omega (arith, c.if-words-count.false, c.frame_words-count.ensures) }
+    let f = found (goal.at.hand_out-requires c).In_ok-position in
+    record { p_bound = omega (arith, f.inside, c.requires.stream_len_bound.0); t_in_bounds = omega (arith, c.if-words-count.false, c.frame_words-count.ensures) }
+
+pub overflow_cast-result : goal.overflow_cast-result
+overflow_cast-result c =
+    record { fits = omega (arith, (found (goal.at.overflow_cast-result c).In_ok-position).inside, c.requires.stream_len_bound.0) }
 
 pub overflow_cast-result-2 : goal.overflow_cast-result-2
 overflow_cast-result-2 c = omega (arith, few_words_lem _ c.args.r.now.ruled, c.frame_words-count.ensures)
 
 pub returns : goal.returns
-returns c = handed_out _ _ _ _ c.position_from-position.ensures c.if-stream-position.false c.frame_words-count.ensures c.if-words-count.false c.hand_out.ensures
+returns c =
+    let f = found (goal.at.returns c).In_ok-position in
+    handed_out _ _ _ _ f.is f.inside c.frame_words-count.ensures c.if-words-count.false c.hand_out.ensures

@@ -9,7 +9,7 @@ overflow_mul-end c = record { fits = omega (arith, c.requires.stream_len_bound.0
 
 pub next_sifted-p-requires : goal.next_sifted-p-requires
 next_sifted-p-requires c =
-    record { stream_len_bound = (c.requires.stream_len_bound.0, omega (arith, c.requires.stream_len_bound.1)); shaped = c.sieve_of-sieve.ensures.shaped }
+    record { stream_len_bound = (c.requires.stream_len_bound.0, omega (arith, c.requires.stream_len_bound.1)) }
 
 pub loop-p-init : goal.loop-p-init
 loop-p-init c =
@@ -33,7 +33,7 @@ overflow_add-p-in-loop-p c = record { fits = omega (arith, c.loop-p.invariant.1)
 
 pub next_sifted-p-requires-in-loop-p : goal.next_sifted-p-requires-in-loop-p
 next_sifted-p-requires-in-loop-p c =
-    record { stream_len_bound = (c.requires.stream_len_bound.0, omega (arith, c.requires.stream_len_bound.0, c.loop-p-test.true)); shaped = c.sieve_of-sieve.ensures.shaped }
+    record { stream_len_bound = (c.requires.stream_len_bound.0, omega (arith, c.requires.stream_len_bound.0, c.loop-p-test.true)) }
 
 pub loop-p-smaller : goal.loop-p-smaller
 loop-p-smaller c = omega (arith, c.loop-p-test.true, c.next_sifted-p-in-loop-p.ensures.after)
@@ -44,9 +44,6 @@ loop-p-preserved c =
       walk_sifted _ _ _ _ (walk_more _ _ _ c.loop-p.invariant.0 (sym c.agrees_sifted.ensures ∙ c.if-agrees_sifted.false)) c.sieve_of-sieve.ensures n,
       omega (arith, c.requires.stream_len_bound.0, c.loop-p-test.true, n.near),
     )
-
-pub overflow_add-result : goal.overflow_add-result
-overflow_add-result c = record { fits = omega (arith, c.requires.stream_len_bound.0) }
 
 pub returns : goal.returns
 returns c = walk_ends _ _ _ c.loop-p.invariant.0 c.loop-p-test.false

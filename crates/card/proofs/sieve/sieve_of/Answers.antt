@@ -1,9 +1,14 @@
 use native.Mathlib.Omega.{arith}
-use Rattle.card.proofs.Sieves.{sieve_none}
+use mathlib.Core.Path.{ap}
+use Prim.Native.Nat.{ℕ}
+use lib.ListN.{take}
+use Rattle.std.specs.List.{list_all}
+use Rattle.card.specs.Sieve.{row_holds}
 use Rattle.card.proofs.sieve.sieve_of.Goals as goal
 
 pub loop-i-init : goal.loop-i-init
-loop-i-init c = sieve_none _ _ c.none-sieve.ensures
+loop-i-init c =
+    record { needed = λ y p h. ap (λ (n : ℕ). list_all (row_holds y p) (take n c.none-sieve.result.list)) c.none-sieve.ensures }
 
 pub sift_more-sieve-requires : goal.sift_more-sieve-requires
 sift_more-sieve-requires c =

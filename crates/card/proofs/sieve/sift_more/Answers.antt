@@ -1,4 +1,4 @@
-use mathlib.Core.Path.{◌≡◌, sym, ap, ◌∙◌}
+use mathlib.Core.Path.{refl, ◌≡◌, sym, ap, ◌∙◌}
 use Prim.Native.Nat.{◌+◌}
 use native.Mathlib.Omega.{arith}
 use Rattle.model.specs.Samples.{holds}
@@ -57,16 +57,11 @@ pub field_of-requires : goal.field_of-requires
 field_of-requires c =
     (omega (arith, place_narrow c.loop-k.invariant.along c.loop-k-test.true), omega (arith, c.run_at-c.ensures.few))
 
-pub with-more-requires : goal.with-more-requires
-with-more-requires c =
-    let e = c.run_at-c.ensures in
-    record { shaped = c.loop-k.invariant.sieve.shaped; at_le_most_run_at = (e.small, e.few) }
-
 pub overflow_add-at : goal.overflow_add-at
 overflow_add-at c = omega (arith, next_narrow c.loop-k.invariant.along c.loop-k-test.true c.run_at-c.ensures)
 
 pub loop-k-preserved : goal.loop-k-preserved
-loop-k-preserved c = sifting_more c.loop-k.invariant c.loop-k-test.true c.run_at-c.ensures c.field_of.ensures c.with-more.ensures
+loop-k-preserved c = sifting_more c.loop-k.invariant c.loop-k-test.true c.run_at-c.ensures refl refl c.field_of.ensures c.with-more.ensures
 
 pub returns : goal.returns
 returns c = c.loop-k.invariant.sieve
