@@ -11,9 +11,6 @@ use Rattle.card.proofs.Runs.{along_none, law_here, place_narrow, next_narrow, al
 use mathlib.Core.Bool.{not}
 use Rattle.card.proofs.agree.holds_in.Goals as goal
 
-pub sample_at-m-requires : goal.sample_at-m-requires
-sample_at-m-requires c = record { j_bound = c.requires.sample_here.here }
-
 pub loop-k-init : goal.loop-k-init
 loop-k-init c =
     let e = c.sample_at-m.ensures in
@@ -24,12 +21,6 @@ run_at-c-requires c =
     let v = c.loop-k.invariant.0 in
     let l = c.loop-k-test.true in
     record { k_bound = omega (arith, v.firsts, v.counted, l, c.requires.sample_here); begins_of = c.args.s.now.begins_of; component_law = law_here v l }
-
-pub overflow_add-p : goal.overflow_add-p
-overflow_add-p c = record { fits = omega (arith, c.run_at-c.ensures.small, c.requires.p_bound) }
-
-pub bits_at-requires : goal.bits_at-requires
-bits_at-requires c = c.run_at-c.ensures.few
 
 pub field_of-requires : goal.field_of-requires
 field_of-requires c =

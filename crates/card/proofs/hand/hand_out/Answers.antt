@@ -11,20 +11,6 @@ pub loop-i-init : goal.loop-i-init
 loop-i-init c =
     handed_none c.args.s.now.ruled.declared.table.bytes.now c.args.stream.now c.args.p _ _ c.args.s.now.ruled.declared.table.opened_of.counts.subframes_is c.requires.t_in_bounds
 
-pub subframe_at-f-requires : goal.subframe_at-f-requires
-subframe_at-f-requires c = record { i_bound = omega (arith, c.loop-i.invariant, c.loop-i-test.true) }
-
-pub offset_bounds-s-i : goal.offset_bounds-s-i
-offset_bounds-s-i c = omega (arith, c.loop-i.invariant, c.loop-i-test.true, c.args.s.now.ruled.declared.table.opened_of.sized.few_subframes)
-
-pub bounds-s-i : goal.bounds-s-i
-bounds-s-i c = omega (arith, c.loop-i.invariant, c.loop-i-test.true, c.args.s.now.ruled.declared.table.opened_of.sized.few_subframes)
-
-pub overflow_add-p : goal.overflow_add-p
-overflow_add-p c =
-    let h = c.args.s.now.begins_of.small c.loop-i.i (omega (arith, c.loop-i.invariant, c.loop-i-test.true)) in
-    record { fits = omega (arith, h, c.requires.p_bound) }
-
 pub hand_row-requires : goal.hand_row-requires
 hand_row-requires c =
     let b = c.args.s.now.ruled.declared.table.bytes.now in

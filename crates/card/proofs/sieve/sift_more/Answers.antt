@@ -12,9 +12,6 @@ use Rattle.card.proofs.Runs.{along_none, law_here, place_narrow, next_narrow}
 use Rattle.card.proofs.Sieves.{sifting_more, value_held}
 use Rattle.card.proofs.sieve.sift_more.Goals as goal
 
-pub returns-then-not-has_identifier : goal.returns-then-not-has_identifier
-returns-then-not-has_identifier c = c.requires.sieve_of
-
 pub sample_at-m-requires : goal.sample_at-m-requires
 sample_at-m-requires c =
     let b = c.args.s.now.ruled.declared.table.bytes.now in
@@ -63,5 +60,3 @@ overflow_add-at c = omega (arith, next_narrow c.loop-k.invariant.along c.loop-k-
 pub loop-k-preserved : goal.loop-k-preserved
 loop-k-preserved c = sifting_more c.loop-k.invariant c.loop-k-test.true c.run_at-c.ensures refl refl c.field_of.ensures c.with-more.ensures
 
-pub returns : goal.returns
-returns c = c.loop-k.invariant.sieve

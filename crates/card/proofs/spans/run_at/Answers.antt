@@ -15,10 +15,6 @@ pub subframe_at-f-requires : goal.subframe_at-f-requires
 subframe_at-f-requires c =
     record { i_bound = omega (arith, c.component_at-c.ensures, inside _ _ c.args.d.now.subframes_law c.requires.component_law) }
 
-pub offset_bounds-begins-home : goal.offset_bounds-begins-home
-offset_bounds-begins-home c =
-    omega (arith, c.component_at-c.ensures, inside _ _ c.args.d.now.subframes_law c.requires.component_law, c.args.d.now.table.opened_of.sized.few_subframes)
-
 pub bounds-begins-home : goal.bounds-begins-home
 bounds-begins-home c =
     omega (arith, c.component_at-c.ensures, inside _ _ c.args.d.now.subframes_law c.requires.component_law, c.args.d.now.table.opened_of.sized.few_subframes)
@@ -38,18 +34,11 @@ bit_of-at-requires c =
     let w = narrow_there c.args.d.now.table.bytes.now home l c.args.d.now.subframes_law in
     (c.requires.begins_of.small home l, omega (arith, e, f), omega (arith, c.subframe_at-f.ensures, w), omega (arith, e, f))
 
-pub overflow_add-bits : goal.overflow_add-bits
-overflow_add-bits c = omega (arith, c.component_at-c.ensures, inside _ _ c.args.d.now.subframes_law c.requires.component_law)
-
 pub overflow_sub-bits : goal.overflow_sub-bits
 overflow_sub-bits c = omega (arith, c.component_at-c.ensures, inside _ _ c.args.d.now.subframes_law c.requires.component_law)
 
 pub overflow_cast-bits : goal.overflow_cast-bits
 overflow_cast-bits c = omega (arith, c.component_at-c.ensures, inside _ _ c.args.d.now.subframes_law c.requires.component_law)
-
-pub overflow_cast-given : goal.overflow_cast-given
-overflow_cast-given c =
-    omega (arith, c.component_at-c.ensures, inside _ _ c.args.d.now.subframes_law c.requires.component_law)
 
 pub overflow_sub-given : goal.overflow_sub-given
 overflow_sub-given c =
