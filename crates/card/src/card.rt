@@ -2,7 +2,7 @@
 // no such position exists; then 28 for a lent word slice too short; words beyond the frame stay"; and 26 after 27.
 ghost use Rattle.std.specs.Prelude.{◌≡◌, true, ◌≤◌, ◌<◌, length};
 ghost use Rattle.model.specs.View.{view};
-ghost use Rattle.carding.specs.Answer.{longest_stream, margins_told, searched, handed_for, carded_of, handed_of, carded_number, bits_of_frame};
+ghost use Rattle.carding.specs.Answer.{longest_stream, margins_told, searched, handed_for, carded_of, handed_of, bits_of_frame};
 
 use super::hand::hand_out;
 use super::margins::margins_told;
@@ -13,7 +13,7 @@ use carding::carded::{Found, LONGEST_STREAM};
 use rules::bases::frame_words;
 use rules::ruled::RuledTable;
 use table::check::opening;
-use table::reason::{Reason, reason_number};
+use table::reason::Reason;
 
 // 25, 28, or the frame's words handed out.
 #[tactic(auto, using(crate::proofs::SpanLaws::few_words_lem, crate::proofs::Searching::found_there))]
@@ -52,17 +52,6 @@ pub fn card_from(t: &[u8], stream: &[u8], from: u32, words: &mut [u16]) -> Resul
         return Err(Reason::LongStream);
     }
     search(&r, stream, from as usize, words)
-}
-
-// 02's number of the answer; 0 for a frame.
-#[tactic(auto, unfolding(carding::specs::Answer::carded_number))]
-pub fn card_number(r: Result<Found, Reason>) -> u32
-    ensures { result ≡ carded_number r }
-{
-    match r {
-        Ok(_) => 0,
-        Err(reason) => reason_number(reason),
-    }
 }
 
 // How many bits a frame has, its margins too; 0 where the bytes are no table, or one that does not tell its margins.

@@ -11,7 +11,7 @@ use Rattle.model.specs.Accepts.{accepts}
 use Rattle.carding.specs.declared.carded.Found.{Found}
 use Rattle.table.specs.declared.reason.Reason.{Reason}
 use Rattle.table.specs.declared.reason.Reason.TheVariants.{NoTable, UnknownMargin, NoParameters, LongStream, NoFrame, FewWords}
-use Rattle.table.specs.Reasons.{reason_number}
+use Rattle.table.specs.Reasons.{answer_number}
 use Rattle.carding.specs.Layout.{frame_bits, frame_at}
 use Rattle.carding.specs.Search.{position_from, found_from}
 
@@ -68,8 +68,7 @@ handed_of b y from words = handed_for (view b) y words (carded_of b y from words
 
 -- 02's number; 0 for a frame
 unfoldable pub carded_number : Carded → ℕ
-carded_number (Ok f) = 0
-carded_number (Err r) = reason_number r
+carded_number c = answer_number c
 
 -- how many bits a frame of the table has: a card's next frame is looked for so many bits behind the last one's position. 0 where
 -- nobody can tell
