@@ -11,17 +11,30 @@ use Rattle.sample.specs.Component.{bits_of}
 use Rattle.model.specs.Content.{Component, component}
 use Rattle.model.specs.Forms.{sheet_limits, limits_in}
 use Rattle.model.specs.Samples.{piece, place_in, holds_at}
-use Rattle.model.specs.Stored.{first_component_in, component_count_in}
+use Rattle.model.specs.Stored.{parameters_in, first_sample_in, first_component_in, component_count_in}
 use Rattle.model.specs.View.{component_at, sample_at, view}
+use Rattle.model.specs.Facts.{SampleHere}
 use Rattle.model.specs.Meaning.{ComponentLaw, SampleLaw}
 use Rattle.model.proofs.Views.{component_at_lem}
 use Rattle.rules.specs.Ruled.{subframes_of, Ruled}
 use Rattle.rules.proofs.Samplings.{stored}
 use Rattle.framing.proofs.Held.{place_small, holds_read}
+use Rattle.framing.proofs.Listed.{listed_at, first_one, here_at, law_at}
 use Rattle.carding.specs.Layout.{frame_at}
 use Rattle.carding.proofs.Frames.{frame_long, frame_part}
 use Rattle.card.specs.declared.spans.Run.{Run}
 use Rattle.card.specs.Promise.{RunOf}
+
+-- the first sample of a parameter, as sample j of all
+pub record FirstSample (b : List ℕ) (j : ℕ) : Type 0 where
+  pub here : SampleHere b j
+  pub law : SampleLaw (limits_in b) (subframes_of b) (sample_at b j)
+
+pub first_sample : {b : List ℕ} {i j : ℕ} → Ruled b → i < parameters_in b → j ≡ first_sample_in b i → FirstSample b j
+first_sample {b} {i} {j} r l e =
+    let m = listed_at b i 0 r l (first_one b i r l) in
+    let q : j ≡ first_sample_in b i + 0 = omega (arith, e) in
+    record { here = here_at b i 0 m q; law = law_at b i 0 m q }
 
 -- the walk over sample j's components, before component k, whose place is at
 pub record Along (b : List ℕ) (j first count at k : ℕ) : Type 0 where

@@ -5,7 +5,6 @@ use mathlib.Core.List.{List, [], ◌∷◌}
 use Prim.Native.Nat.{ℕ, ◌+◌, ◌-◌, ◌*◌, ◌≤◌, ◌<◌}
 use native.Mathlib.Decide.{dec_lt}
 use native.Mathlib.Omega.{arith}
-use borrow.Author.Count.{below_more}
 use borrow.Author.Tests.{le-leb, lt-leb, leb-true, ne_eqb}
 use lib.Dec.{leb}
 use lib.ListN.{length}
@@ -15,18 +14,13 @@ use Rattle.lay.proofs.Below.{find_none, find_at}
 use Rattle.lay.proofs.Tests.{and_both}
 use Rattle.stream.specs.Promise.{Skips}
 use Rattle.model.specs.Content.{Content}
-use Rattle.model.specs.View.{view}
 use Rattle.carding.specs.Layout.{frame_bits}
 use Rattle.carding.specs.Search.{whole_at, agrees_at, sought_at, position_from, found_from}
 use Rattle.card.specs.declared.rows.Row.{Row}
 use Rattle.card.specs.Promise.{first_found}
-use Rattle.card.specs.Sieve.{SieveOf, row_holds, NextSifted}
-use Rattle.card.proofs.Sieves.{kept_back}
+use Rattle.card.specs.Sieve.{row_holds, NextSifted}
 
 -- ---- positions that the sieve's first row keeps back
-
-pub sifted_none : (y : List ℕ) (p : ℕ) (s : List Row) → NextSifted y p s p
-sifted_none y p s = record { after = omega arith; kept_back = λ k l m. absurd (omega arith); near = omega arith }
 
 pub sifted_first : (y : List ℕ) (p : ℕ) (s : List Row) {row : Row} {r : ℕ} → Some row ≡ slice_get s 0 → Skips y (p + row.at) row.width row.want r → NextSifted y p s (r - row.at)
 unfolding row_holds
@@ -54,29 +48,7 @@ module _ (c : Content) (y : List ℕ) (from : ℕ) where
     pub least : from ≤ p
     pub none : (k : ℕ) → k < p → sought_at c y from k ≡ false
 
-  pub walk_starts : (bits end : ℕ) → bits ≡ frame_bits c → end ≡ 8 * length y → Walked bits end from
-  walk_starts bits end w e =
-      record { whole = w; ends = e; least = omega arith; none = λ k l. rw (lt-leb from k l) }
-
   module _ {bits end p : ℕ} (v : Walked bits end p) where
-    pub walk_more : agrees_at c y p ≡ false → Walked bits end (p + 1)
-    walk_more h =
-        record {
-          whole = v.whole;
-          ends = v.ends;
-          least = omega (arith, v.least);
-          none = below_more _ p v.none (rw (h, and-false (whole_at c y p), and-false (leb from p)));
-        }
-
-    -- and so are those that the sieve keeps back
-    pub walk_on : {r : ℕ} → p ≤ r → ((k : ℕ) → p ≤ k → k < r → agrees_at c y k ≡ false) → Walked bits end r
-    walk_on {r} l h =
-        record { whole = v.whole; ends = v.ends; least = omega (arith, v.least); none = λ k m. go k m (dec_lt k p) }
-      where
-        go : (k : ℕ) → k < r → Dec (k < p) → sought_at c y from k ≡ false
-        go k m (yes d) = v.none k d
-        go k m (no d) = rw (h k (omega arith) m, and-false (whole_at c y k), and-false (leb from k))
-
     pub walk_found : p + bits ≤ end → agrees_at c y p ≡ true → Some p ≡ first_found c y from
     unfolding first_found found_from position_from whole_at
     walk_found l h =
@@ -94,11 +66,6 @@ module _ (c : Content) (y : List ℕ) (from : ℕ) where
         go k (no d) =
             let w : 8 * length y < k + frame_bits c = omega (arith, v.whole, v.ends) in
             rw (lt-leb (k + frame_bits c) (8 * length y) w, and-false (leb from k))
-
--- a position that the sieve keeps back has no frame
-pub walk_sifted : (b y : List ℕ) (from : ℕ) {bits end p r : ℕ} (s : List Row) → Walked (view b) y from bits end p → SieveOf b s → NextSifted y p s r → Walked (view b) y from bits end r
-walk_sifted b y from s v e n =
-    walk_on (view b) y from v n.after (λ k l m. sym (kept_back b y k s e (n.kept_back k l m)))
 
 -- ---- what the position found says
 

@@ -1,6 +1,6 @@
 -- The sieve, row by row. Assumes nothing.
 use mathlib.Core.Path.{◌≡◌, sym, ap, ap₂, ◌∙◌}
-use mathlib.Core.Bool.{true, false}
+use mathlib.Core.Bool.{true}
 use mathlib.Core.List.{List}
 use Prim.Native.Nat.{ℕ, ◌+◌, ◌<◌}
 use native.Mathlib.Omega.{arith}
@@ -17,11 +17,10 @@ use Rattle.card.specs.declared.spans.Run.{Run}
 use Rattle.carding.specs.Layout.{frame_at}
 use Rattle.carding.specs.Search.{agrees_at, reads_at}
 use Rattle.card.specs.Promise.{RunOf}
-use Rattle.lay.proofs.Tests.{refuse, differ}
 use Rattle.framing.proofs.Held.{holds_all}
 use Rattle.carding.proofs.Agreeing.{agrees_all, identifier_reads}
 use Rattle.card.specs.declared.rows.Row.{Row}
-use Rattle.card.specs.Sieve.{SieveOf, row_holds, sifts_at, With}
+use Rattle.card.specs.Sieve.{SieveOf, row_holds, With}
 use Rattle.card.proofs.Runs.{Along, along_more, tested}
 
 -- ---- the rows of an identifier
@@ -54,8 +53,3 @@ value_held b i r l e y p h =
     let f = frame_at (view b) y p in
     let reads = all_below (parameters_in b) (reads_at (view b) f) (sym (agrees_all b y p r) ∙ h) i l in
     ap (λ (s : Sample). holds (subframes_of b) f s (value_in b i)) (sym (first b i r l).is) ∙ sym (identifier_reads b f i l e) ∙ reads
-
--- ---- what the sieve keeps back
-
-pub kept_back : (b y : List ℕ) (p : ℕ) (s : List Row) → SieveOf b s → sifts_at y p s ≡ false → false ≡ agrees_at (view b) y p
-kept_back b y p s v h = refuse _ (λ a. differ h (v.needed y p a))

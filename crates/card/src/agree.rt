@@ -17,6 +17,7 @@ use stored::flags::has_identifier;
 use stream::bits_at;
 
 // Every component of sample j of all is, in the frame at p, its bits of v.
+#[tactic(auto, using(crate::proofs::Runs::place_narrow, crate::proofs::Runs::along_none))]
 fn holds_in(s: &SpannedTable, stream: &[u8], p: usize, j: usize, v: u64) -> bool
     requires sample_here { SampleHere s.now.ruled.declared.table.bytes.now j }
     requires sample_law { SampleLaw (limits_in s.now.ruled.declared.table.bytes.now) (subframes_of s.now.ruled.declared.table.bytes.now) (sample_at s.now.ruled.declared.table.bytes.now j) }
@@ -49,6 +50,7 @@ fn reads_at(s: &SpannedTable, stream: &[u8], p: usize, i: usize) -> bool
 }
 
 // Every identifier agrees in the frame at p.
+#[tactic(auto, using(carding::proofs::Agreeing::agrees_all))]
 pub fn agrees(s: &SpannedTable, stream: &[u8], p: usize) -> bool
     requires p_bound { p ≤ 8 * longest_stream }
     ensures { result ≡ agrees_at (view s.now.ruled.declared.table.bytes.now) stream.now p }

@@ -16,6 +16,7 @@ use table::check::opening;
 use table::reason::Reason;
 
 // 25, 28, or the frame's words handed out.
+#[tactic(auto, using(crate::proofs::SpanLaws::few_words_lem, crate::proofs::Searching::found_there))]
 fn search(r: &RuledTable, stream: &[u8], from: usize, words: &mut [u16]) -> Result<Found, Reason>
     requires told { margins_told r.now.declared.table.bytes.now ≡ true }
     requires stream_len_bound { (length stream.now ≤ longest_stream) × (from < 4294967296) }

@@ -27,6 +27,7 @@ fn hand_row(stream: &[u8], k: usize, bits: usize, count: usize, words: &mut [u16
 }
 
 // The frame at p; what stands behind its words stays.
+#[tactic(auto, using(crate::proofs::SpanLaws::narrow_there, crate::proofs::Handing::handed_all))]
 pub fn hand_out(s: &SpannedTable, stream: &[u8], p: usize, words: &mut [u16])
     requires p_bound { p ≤ 8 * longest_stream }
     requires t_in_bounds { frame_words (view s.now.ruled.declared.table.bytes.now) ≤ length words.old }

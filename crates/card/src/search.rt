@@ -23,6 +23,7 @@ fn next_sifted(stream: &[u8], p: usize, sieve: &Sieve) -> usize
 }
 
 // The first at or after `from`.
+#[tactic(auto, using(crate::proofs::Searching::walk_found))]
 pub fn position_from(s: &SpannedTable, stream: &[u8], from: usize, bits: usize) -> Option<usize>
     requires bits_value { (bits ≡ frame_bits (view s.now.ruled.declared.table.bytes.now)) × (bits ≤ most_frame_bits) }
     requires stream_len_bound { (length stream.now ≤ longest_stream) × (from < 4294967296) }

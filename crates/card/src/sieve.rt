@@ -13,6 +13,7 @@ use super::spans::run_at;
 use stored::flags::has_identifier;
 
 // The rows of parameter i, if it is an identifier: its value's bits, component by component.
+#[tactic(auto, using(crate::proofs::Runs::place_narrow))]
 fn sift_more(s: &SpannedTable, i: usize, sieve: Sieve) -> Sieve
     requires i_bound { i < parameters_in s.now.ruled.declared.table.bytes.now }
     requires sieve_of { SieveOf s.now.ruled.declared.table.bytes.now (rows_of sieve) }

@@ -1,36 +1,15 @@
 use mathlib.Core.Path.{◌∙◌}
 use native.Mathlib.Omega.{arith}
 use borrow.Author.Tests.{eq-eqb, ne_eqb}
-use Rattle.lay.proofs.Passing.{passed_none, passed_more, failed, passed_all}
+use Rattle.lay.proofs.Passing.{passed_more, failed, passed_all}
 use Rattle.model.specs.View.{view}
 use Rattle.framing.proofs.Held.{holds_all}
 use Rattle.carding.specs.Layout.{frame_at}
-use Rattle.card.proofs.Runs.{along_none, law_here, place_narrow, next_narrow, along_more, tested}
+use Rattle.card.proofs.Runs.{law_here, next_narrow, along_more, tested}
 use Rattle.card.proofs.agree.holds_in.Goals as goal
 
-pub sample_at-m-requires : goal.sample_at-m-requires
-sample_at-m-requires c = record { j_bound = c.requires.sample_here.here }
-
-pub loop-k-init : goal.loop-k-init
-loop-k-init c =
-    let e = c.sample_at-m.ensures in
-    (along_none e.first_is e.count_is c.args.s.now.ruled.ruled c.requires.sample_law, passed_none _ _ _ e.count_is)
-
-pub run_at-c-requires : goal.run_at-c-requires
-run_at-c-requires c =
-    let v = c.loop-k.invariant.0 in
-    let l = c.loop-k-test.true in
-    record { k_bound = omega (arith, v.firsts, v.counted, l, c.requires.sample_here); begins_of = c.args.s.now.begins_of; component_law = law_here v l }
-
-pub overflow_add-p : goal.overflow_add-p
-overflow_add-p c = record { fits = omega (arith, c.run_at-c.ensures.small, c.requires.p_bound) }
-
-pub bits_at-requires : goal.bits_at-requires
-bits_at-requires c = c.run_at-c.ensures.few
-
-pub field_of-requires : goal.field_of-requires
-field_of-requires c =
-    (omega (arith, place_narrow c.loop-k.invariant.0 c.loop-k-test.true), omega (arith, c.run_at-c.ensures.few))
+pub run_at-c-requires-clause-component_law : goal.run_at-c-requires-clause-component_law
+run_at-c-requires-clause-component_law c = law_here c.loop-k.invariant.0 c.loop-k-test.true
 
 pub returns-then-bits_at-field_of : goal.returns-then-bits_at-field_of
 returns-then-bits_at-field_of c =

@@ -1,16 +1,13 @@
 -- An identifier's components are compared in the stream.
-use mathlib.Core.Path.{◌≡◌, sym, ap, ap₂, ◌∙◌}
-use Prim.Native.Nat.{◌+◌}
-use native.Mathlib.Omega.{arith}
+use mathlib.Core.Path.{sym, ap, ap₂, ◌∙◌}
 use Rattle.model.specs.Samples.{holds}
-use Rattle.model.specs.Stored.{first_sample_in}
 use Rattle.model.specs.View.{sample_at, view}
 use Rattle.stored.proofs.Flagged.{identifier_flag}
 use Rattle.rules.specs.Ruled.{subframes_of}
 use Rattle.rules.proofs.Identifying.{first}
-use Rattle.framing.proofs.Listed.{listed_at, first_one, here_at, law_at}
 use Rattle.carding.specs.Layout.{frame_at}
 use Rattle.carding.proofs.Agreeing.{plain_reads, identifier_reads}
+use Rattle.card.proofs.Runs.{first_sample}
 use Rattle.card.proofs.agree.reads_at.Goals as goal
 
 pub returns-then-not-has_identifier : goal.returns-then-not-has_identifier
@@ -18,13 +15,11 @@ returns-then-not-has_identifier c =
     let l = c.requires.i_bound in
     sym (plain_reads _ _ _ l (sym (identifier_flag _ _ c.parameter_at-e.ensures.flags_is c.has_identifier.ensures) ∙ c.if-not-has_identifier.true))
 
-pub holds_in-requires : goal.holds_in-requires
-holds_in-requires c =
-    let t = c.args.s.now.ruled.declared.table.bytes.now in
-    let i = c.args.i in
-    let m = listed_at t i 0 c.args.s.now.ruled.ruled c.requires.i_bound (first_one t i c.args.s.now.ruled.ruled c.requires.i_bound) in
-    let q : c.parameter_at-e.result.first ≡ first_sample_in t i + 0 = omega (arith, c.parameter_at-e.ensures) in
-    record { sample_here = here_at t i 0 m q; sample_law = law_at t i 0 m q; p_bound = c.requires.p_bound }
+pub holds_in-requires-clause-sample_here : goal.holds_in-requires-clause-sample_here
+holds_in-requires-clause-sample_here c = (first_sample c.args.s.now.ruled.ruled c.requires.i_bound c.parameter_at-e.ensures.first_is).here
+
+pub holds_in-requires-clause-sample_law : goal.holds_in-requires-clause-sample_law
+holds_in-requires-clause-sample_law c = (first_sample c.args.s.now.ruled.ruled c.requires.i_bound c.parameter_at-e.ensures.first_is).law
 
 pub returns : goal.returns
 returns c =

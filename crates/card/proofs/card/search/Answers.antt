@@ -1,11 +1,9 @@
 -- 25, 28, or the frame.
 use mathlib.Core.Path.{refl, sym, ◌∙◌}
-use native.Mathlib.Omega.{arith}
 use Rattle.model.specs.View.{view}
 use Rattle.carding.proofs.CardCases.{refused_25, refused_28, handed_out}
 use Rattle.card.proofs.Opened.{none_out}
 use Rattle.card.proofs.Searching.{FoundAt, none_found, found_there}
-use Rattle.card.proofs.SpanLaws.{few_words_lem}
 use Rattle.card.proofs.card.search.Goals.{In_ok-position}
 use Rattle.card.proofs.card.search.Goals as goal
 
@@ -21,18 +19,6 @@ pub returns-then-words-count : goal.returns-then-words-count
 returns-then-words-count c =
     let f = found (goal.at.returns-then-words-count c).In_ok-position in
     refused_28 _ _ _ _ f.is f.inside c.frame_words-count.ensures c.if-words-count.true
-
-pub hand_out-requires : goal.hand_out-requires
-hand_out-requires c =
-    let f = found (goal.at.hand_out-requires c).In_ok-position in
-    record { p_bound = omega (arith, f.inside, c.requires.stream_len_bound.0); t_in_bounds = omega (arith, c.if-words-count.false, c.frame_words-count.ensures) }
-
-pub overflow_cast-result : goal.overflow_cast-result
-overflow_cast-result c =
-    record { fits = omega (arith, (found (goal.at.overflow_cast-result c).In_ok-position).inside, c.requires.stream_len_bound.0) }
-
-pub overflow_cast-result-2 : goal.overflow_cast-result-2
-overflow_cast-result-2 c = omega (arith, few_words_lem _ c.args.r.now.ruled, c.frame_words-count.ensures)
 
 pub returns : goal.returns
 returns c =

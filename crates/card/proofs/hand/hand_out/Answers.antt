@@ -3,59 +3,36 @@ use Prim.Native.Nat.{◌<◌}
 use native.Mathlib.Omega.{arith}
 use Rattle.lay.specs.Bytes.{put}
 use Rattle.model.specs.Stored.{subframes_in}
-use Rattle.card.proofs.SpanLaws.{narrow_there, words_are, few_words_lem}
-use Rattle.card.proofs.Handing.{handed_none, next_inside, next_room, handed_more, handed_all, row_read}
+use Rattle.card.proofs.SpanLaws.{words_are, few_words_lem}
+use Rattle.card.proofs.Handing.{handed_none, next_inside, next_room, handed_more, row_read}
+use Rattle.card.proofs.hand.hand_out.Goals.{In-loop-i}
 use Rattle.card.proofs.hand.hand_out.Goals as goal
 
+here : (c : In-loop-i) → c.loop-i.i < subframes_in c.args.s.now.ruled.declared.table.bytes.now
+here c = omega (arith, c.loop-i.invariant, c.loop-i-test.true)
+
 pub loop-i-init : goal.loop-i-init
-loop-i-init c =
-    handed_none c.args.s.now.ruled.declared.table.bytes.now c.args.stream.now c.args.p _ _ c.args.s.now.ruled.declared.table.opened_of.counts.subframes_is c.requires.t_in_bounds
+loop-i-init c = handed_none _ c.args.stream.now c.args.p _ _ c.args.s.now.ruled.declared.table.opened_of.counts.subframes_is c.requires.t_in_bounds
 
-pub subframe_at-f-requires : goal.subframe_at-f-requires
-subframe_at-f-requires c = record { i_bound = omega (arith, c.loop-i.invariant, c.loop-i-test.true) }
-
-pub offset_bounds-s-i : goal.offset_bounds-s-i
-offset_bounds-s-i c = omega (arith, c.loop-i.invariant, c.loop-i-test.true, c.args.s.now.ruled.declared.table.opened_of.sized.few_subframes)
-
-pub bounds-s-i : goal.bounds-s-i
-bounds-s-i c = omega (arith, c.loop-i.invariant, c.loop-i-test.true, c.args.s.now.ruled.declared.table.opened_of.sized.few_subframes)
-
-pub overflow_add-p : goal.overflow_add-p
-overflow_add-p c =
-    let h = c.args.s.now.begins_of.small c.loop-i.i (omega (arith, c.loop-i.invariant, c.loop-i-test.true)) in
-    record { fits = omega (arith, h, c.requires.p_bound) }
-
-pub hand_row-requires : goal.hand_row-requires
-hand_row-requires c =
-    let b = c.args.s.now.ruled.declared.table.bytes.now in
+pub hand_row-requires-clause-count_in_bounds : goal.hand_row-requires-clause-count_in_bounds
+hand_row-requires-clause-count_in_bounds c =
     let v = c.loop-i.invariant in
-    let i = c.loop-i.i in
-    let l : i < subframes_in b = omega (arith, v, c.loop-i-test.true) in
-    let h = c.args.s.now.begins_of.small i l in
-    let e = c.subframe_at-f.ensures in
-    let n = narrow_there b i l c.args.s.now.ruled.ruled.subframes in
-    record { bits_le_bits = (omega (arith, e, n), omega (arith, e, n), omega (arith, h, c.requires.p_bound)); count_in_bounds = omega (arith, v.long, next_room _ _ _ v c.loop-i-test.true, words_are b i l, e) }
+    let w = words_are c.args.s.now.ruled.declared.table.bytes.now c.loop-i.i (here (goal.at.hand_row-requires-clause-count_in_bounds c).In-loop-i) in
+    omega (arith, v.long, next_room _ _ _ v c.loop-i-test.true, w, c.subframe_at-f.ensures)
 
 pub overflow_add-at : goal.overflow_add-at
 overflow_add-at c =
     let b = c.args.s.now.ruled.declared.table.bytes.now in
-    let v = c.loop-i.invariant in
-    let i = c.loop-i.i in
-    let l : i < subframes_in b = omega (arith, v, c.loop-i-test.true) in
-    let e = c.subframe_at-f.ensures in
-    record { fits = omega (arith, next_inside _ _ _ v c.loop-i-test.true, few_words_lem b c.args.s.now.ruled.ruled, words_are b i l, e) }
+    let w = words_are b c.loop-i.i (here (goal.at.overflow_add-at c).In-loop-i) in
+    omega (arith, next_inside _ _ _ c.loop-i.invariant c.loop-i-test.true, few_words_lem b c.args.s.now.ruled.ruled, w, c.subframe_at-f.ensures)
 
 pub loop-i-preserved : goal.loop-i-preserved
 loop-i-preserved c =
     let b = c.args.s.now.ruled.declared.table.bytes.now in
-    let v = c.loop-i.invariant in
     let i = c.loop-i.i in
-    let l : i < subframes_in b = omega (arith, v, c.loop-i-test.true) in
+    let l = here (goal.at.loop-i-preserved c).In-loop-i in
     let e = c.subframe_at-f.ensures in
-    handed_more _ _ _ v c.loop-i-test.true
+    handed_more _ _ _ c.loop-i.invariant c.loop-i-test.true
     (c.hand_row.ensures
     ∙ ap (put c.loop-i.words c.loop-i.at) (row_read b c.args.stream.now c.args.p i l _ _ _ (c.args.s.now.begins_of.each i l) e.bits_is e.words_is))
     (e.words_is ∙ sym (words_are b i l))
-
-pub returns : goal.returns
-returns c = handed_all _ _ _ c.loop-i.invariant c.loop-i-test.false

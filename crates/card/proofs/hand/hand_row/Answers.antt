@@ -1,11 +1,9 @@
 use mathlib.Core.Path.{refl, sym, ap, ◌∙◌}
-use Prim.Native.Nat.{ℕ, ◌+◌, ◌*◌, ◌≤◌}
-use native.Mathlib.Nat.{lt_of_lt_of_le, zero-mul, mul-le-mul, add-mul}
+use Prim.Native.Nat.{ℕ, ◌+◌, ◌*◌}
+use native.Mathlib.Nat.{zero-mul, add-mul}
 use native.Mathlib.Omega.{arith}
-use lib.Pow.{pow_mono}
 use lib.ListN.{length-set}
 use lib.Seq.{take_all}
-use Rattle.model.specs.Forms.{sheet_limits}
 use Rattle.lay.specs.Bytes.{put}
 use Rattle.lay.proofs.Below.{length_tab, get_or_tab}
 use Rattle.lay.proofs.Puts.{put_none, put_more}
@@ -22,24 +20,6 @@ loop-w-init c =
       stands = omega (arith, zero-mul c.args.bits);
       done = sym (put_none _ _);
     }
-
-pub overflow_cast-bits : goal.overflow_cast-bits
-overflow_cast-bits c = record { fits = omega (arith, c.requires.bits_le_bits.0) }
-
-pub bits_at-requires : goal.bits_at-requires
-bits_at-requires c = c.requires.bits_le_bits.0
-
-pub overflow_cast-words : goal.overflow_cast-words
-overflow_cast-words c = record { fits = lt_of_lt_of_le c.bits_at.ensures.1 (pow_mono c.requires.bits_le_bits.0) }
-
-pub bounds-words-at : goal.bounds-words-at
-bounds-words-at c = omega (arith, c.loop-w.invariant, c.loop-w-test.true)
-
-pub overflow_add-place : goal.overflow_add-place
-overflow_add-place c =
-    let v = c.loop-w.invariant in
-    let w : c.loop-w.w ≤ sheet_limits.words = omega (arith, v.bound, c.requires.bits_le_bits.1) in
-    record { fits = omega (arith, v.stands, mul-le-mul w c.requires.bits_le_bits.0, c.requires.bits_le_bits) }
 
 pub loop-w-preserved : goal.loop-w-preserved
 loop-w-preserved c =

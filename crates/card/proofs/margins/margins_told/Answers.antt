@@ -1,24 +1,17 @@
 use mathlib.Core.Path.{sym, ap, ◌∙◌}
-use native.Mathlib.Nat.{not-suc-le-zero}
 use native.Mathlib.Omega.{arith}
 use borrow.Author.Count.{below_more}
 use borrow.Author.Tests.{not-true, not-false}
 use Rattle.model.specs.Limits.{Limits}
 use Prim.Native.Nat.{◌<◌}
 use Rattle.model.specs.Stored.{subframes_in}
-use Rattle.stored.proofs.Reading.{known_here, bounds_are}
+use Rattle.stored.proofs.Reading.{bounds_are}
 use Rattle.card.proofs.MarginLaws.{known_made, known_told, untold_form, untold_leading, untold_trailing}
 use Rattle.card.proofs.margins.margins_told.Goals.{then-f-eq-BLANK_MARGIN-via-then-f-eq-BLANK_MARGIN, then-f-eq-BLANK_MARGIN-via-else-f-eq-BLANK_MARGIN+then-f-eq-BLANK_MARGIN-2}
 use Rattle.card.proofs.margins.margins_told.Goals as goal
 
-pub bounds_of-requires : goal.bounds_of-requires
-bounds_of-requires c = known_here c.args.t.now.opened_of.sized.formed c.args.t.now.opened_of.form_is
-
 pub returns-then-not-bounds_of : goal.returns-then-not-bounds_of
 returns-then-not-bounds_of c = untold_form _ (sym (ap (λ (l : Limits). l.blank) (bounds_are _ c.args.t.now.opened_of.form_is c.bounds_of.ensures)) ∙ not-true _ c.if-not-bounds_of.true)
-
-pub loop-i-init : goal.loop-i-init
-loop-i-init c = record { counted = c.args.t.now.opened_of.counts.subframes_is; within = omega arith; each = λ k l. absurd (not-suc-le-zero l) }
 
 pub returns-then-f-eq-BLANK_MARGIN : goal.returns-then-f-eq-BLANK_MARGIN
 returns-then-f-eq-BLANK_MARGIN c =

@@ -3,11 +3,8 @@ use mathlib.Core.Path.{ap, ◌∙◌}
 use mathlib.Core.List.{List}
 use Rattle.std.specs.Prelude.{slice_get}
 use Rattle.card.specs.declared.rows.Row.{Row}
-use Rattle.card.proofs.Searching.{sifted_none, sifted_first}
+use Rattle.card.proofs.Searching.{sifted_first}
 use Rattle.card.proofs.search.next_sifted.Goals as goal
-
-pub returns-in-None : goal.returns-in-None
-returns-in-None c = sifted_none _ _ _
 
 pub returns-in-Some : goal.returns-in-Some
 returns-in-Some c =

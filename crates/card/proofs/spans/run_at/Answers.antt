@@ -5,55 +5,8 @@ use native.Mathlib.Omega.{arith}
 use Rattle.model.specs.Samples.{whole, piece}
 use Rattle.model.specs.Stored.{subframes_in, home_in}
 use Rattle.model.specs.View.{component_at}
-use Rattle.card.proofs.SpanLaws.{inside, narrow_there, component_there}
+use Rattle.card.proofs.SpanLaws.{inside, component_there}
 use Rattle.card.proofs.spans.run_at.Goals as goal
-
-pub overflow_sub-home : goal.overflow_sub-home
-overflow_sub-home c = omega (arith, c.component_at-c.ensures, inside _ _ c.args.d.now.subframes_law c.requires.component_law)
-
-pub subframe_at-f-requires : goal.subframe_at-f-requires
-subframe_at-f-requires c =
-    record { i_bound = omega (arith, c.component_at-c.ensures, inside _ _ c.args.d.now.subframes_law c.requires.component_law) }
-
-pub offset_bounds-begins-home : goal.offset_bounds-begins-home
-offset_bounds-begins-home c =
-    omega (arith, c.component_at-c.ensures, inside _ _ c.args.d.now.subframes_law c.requires.component_law, c.args.d.now.table.opened_of.sized.few_subframes)
-
-pub bounds-begins-home : goal.bounds-begins-home
-bounds-begins-home c =
-    omega (arith, c.component_at-c.ensures, inside _ _ c.args.d.now.subframes_law c.requires.component_law, c.args.d.now.table.opened_of.sized.few_subframes)
-
-pub overflow_sub-c : goal.overflow_sub-c
-overflow_sub-c c = omega (arith, c.component_at-c.ensures, inside _ _ c.args.d.now.subframes_law c.requires.component_law)
-
-pub overflow_sub-c-2 : goal.overflow_sub-c-2
-overflow_sub-c-2 c = omega (arith, c.component_at-c.ensures, inside _ _ c.args.d.now.subframes_law c.requires.component_law)
-
-pub bit_of-at-requires : goal.bit_of-at-requires
-bit_of-at-requires c =
-    let f = inside c.args.d.now.table.bytes.now c.args.k c.args.d.now.subframes_law c.requires.component_law in
-    let e = c.component_at-c.ensures in
-    let home : ℕ = c.component_at-c.result.subframe - 1 in
-    let l : home < subframes_in c.args.d.now.table.bytes.now = omega (arith, e, f) in
-    let w = narrow_there c.args.d.now.table.bytes.now home l c.args.d.now.subframes_law in
-    (c.requires.begins_of.small home l, omega (arith, e, f), omega (arith, c.subframe_at-f.ensures, w), omega (arith, e, f))
-
-pub overflow_add-bits : goal.overflow_add-bits
-overflow_add-bits c = omega (arith, c.component_at-c.ensures, inside _ _ c.args.d.now.subframes_law c.requires.component_law)
-
-pub overflow_sub-bits : goal.overflow_sub-bits
-overflow_sub-bits c = omega (arith, c.component_at-c.ensures, inside _ _ c.args.d.now.subframes_law c.requires.component_law)
-
-pub overflow_cast-bits : goal.overflow_cast-bits
-overflow_cast-bits c = omega (arith, c.component_at-c.ensures, inside _ _ c.args.d.now.subframes_law c.requires.component_law)
-
-pub overflow_cast-given : goal.overflow_cast-given
-overflow_cast-given c =
-    omega (arith, c.component_at-c.ensures, inside _ _ c.args.d.now.subframes_law c.requires.component_law)
-
-pub overflow_sub-given : goal.overflow_sub-given
-overflow_sub-given c =
-    omega (arith, c.component_at-c.ensures, inside _ _ c.args.d.now.subframes_law c.requires.component_law)
 
 pub returns : goal.returns
 unfolding whole piece component_at

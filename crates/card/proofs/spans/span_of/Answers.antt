@@ -28,14 +28,6 @@ loop-i-init c =
       low = λ i l. absurd (not-suc-le-zero l);
     }
 
-pub overflow_add-begins : goal.overflow_add-begins
-overflow_add-begins c =
-    let v = c.loop-i.invariant in
-    let l : c.loop-i.i < subframes_in c.args.d.now.table.bytes.now = omega (arith, v, c.loop-i-test.true) in
-    let k = told_known c.args.d.now.table.bytes.now c.requires.t_value c.loop-i.i l in
-    let n = margins_there c.args.d.now.table.bytes.now c.loop-i.i l k c.args.d.now.subframes_law in
-    record { fits = omega (arith, v, n, c.args.d.now.table.opened_of.sized.few_subframes, c.subframe_at-f.ensures, l) }
-
 pub subframe_bits-sum-requires : goal.subframe_bits-sum-requires
 subframe_bits-sum-requires c =
     let v = c.loop-i.invariant in
@@ -45,11 +37,6 @@ subframe_bits-sum-requires c =
     let m = margins_there c.args.d.now.table.bytes.now c.loop-i.i l k c.args.d.now.subframes_law in
     let e = c.subframe_at-f.ensures in
     (omega (arith, m, e), omega (arith, n, e), omega (arith, n, e), omega (arith, m, e))
-
-pub overflow_add-sum : goal.overflow_add-sum
-overflow_add-sum c =
-    let v = c.loop-i.invariant in
-    record { fits = omega (arith, v, c.subframe_bits-sum.ensures, c.args.d.now.table.opened_of.sized.few_subframes) }
 
 pub loop-i-preserved : goal.loop-i-preserved
 loop-i-preserved c =
