@@ -2,7 +2,7 @@
 use Prim.Native.Nat.{◌-◌}
 use lib.ListN.{length}
 use Rattle.lines.specs.Line.{Ready}
-use Rattle.spellings.proofs.walk.cases.Given as goal
+use Rattle.spellings.proofs.cases.cases.Given as goal
 
 abbrev pub invariant-loop-c : goal.invariant-loop-c
 invariant-loop-c l = Ready l.list l.c

@@ -1,8 +1,8 @@
 use native.Mathlib.Omega.{arith}
 use mathlib.Core.Path.{sym, ◌∙◌}
 use Rattle.lines.proofs.Cuts.{Next, found_next}
-use Rattle.spellings.proofs.walk.cases.Goals.{In-Line}
-use Rattle.spellings.proofs.walk.cases.Goals as goal
+use Rattle.spellings.proofs.cases.cases.Goals.{In-Line}
+use Rattle.spellings.proofs.cases.cases.Goals as goal
 
 -- what the cursor found
 found : (c : In-Line) → Next c.args.list.now c.loop-c.c c.in-Line.start c.in-Line.end c.in-Line.next
