@@ -11,41 +11,21 @@ use intake::say::text;
 // The line of a case; none where more is lent than there is room for.
 fn line(rt: &HostRuntime, case: Case, words: &mut [u16], table: &mut [u8]) -> Option<()> {
     match case {
-        Case::Make { sheet, lent } => make_line(rt, sheet, table.get_mut(..lent)?),
-        Case::Check { table } => check_line(rt, table),
-        Case::Read {
-            table,
-            frame,
-            parameter,
-            sample,
-        } => read_line(rt, table, spelt(frame, words)?, parameter, sample),
-        Case::Place {
-            table,
-            frame,
-            parameter,
-            sample,
-            value,
-        } => place_line(rt, table, spelt(frame, words)?, parameter, sample, value),
-        Case::Compare { table, frame } => compare_line(rt, table, spelt(frame, words)?),
-        Case::Name { table, parameter } => name_line(rt, table, parameter),
-        Case::NameBy { table, mnemonic } => mnemonic_line(rt, table, mnemonic),
-        Case::Card {
-            table,
-            stream,
-            lent,
-        } => card_line(rt, table, stream, None, words.get_mut(..lent)?),
-        Case::Page {
-            table,
-            frame,
-            asked,
-            lent,
-        } => page_line(rt, table, spelt(frame, words)?, asked, lent)?,
-        Case::CardFrom {
-            table,
-            stream,
-            from,
-            lent,
-        } => card_line(rt, table, stream, Some(from), words.get_mut(..lent)?),
+        Case::Make(sheet, lent) => make_line(rt, sheet, table.get_mut(..lent)?),
+        Case::Check(table) => check_line(rt, table),
+        Case::Read(frame, of) => read_line(rt, frame.table, spelt(frame, words)?, of),
+        Case::Place(frame, of, value) => {
+            place_line(rt, frame.table, spelt(frame, words)?, of, value)
+        }
+        Case::Compare(frame) => compare_line(rt, frame.table, spelt(frame, words)?),
+        Case::Name(table, parameter) => name_line(rt, table, parameter),
+        Case::NameBy(table, mnemonic) => mnemonic_line(rt, table, mnemonic),
+        Case::Card(table, stream, from, lent) => {
+            card_line(rt, table, stream, from, words.get_mut(..lent)?)
+        }
+        Case::Page(frame, asked, lent) => {
+            page_line(rt, frame.table, spelt(frame, words)?, asked, lent)?
+        }
     }
     Some(())
 }

@@ -46,11 +46,10 @@ impl<'s> Cursor<'s> {
     }
 
     // A count and so many items of that many bytes each.
-    pub fn items(&mut self, size: usize) -> Option<&'s [u8]>
-        requires { size ≤ 8 }
+    pub fn items(&mut self, size: u32) -> Option<&'s [u8]>
         ensures { length self.new.rest.now ≤ length self.old.rest.now }
     {
         let count = self.four()?;
-        self.run(size * count as usize)
+        self.run(size as usize * count as usize)
     }
 }

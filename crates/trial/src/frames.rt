@@ -1,20 +1,22 @@
 // Kinds 3, 4 and 5: a frame read, filled and compared by a table.
+use crate::case::Frame;
 use crate::sum::of_items;
 use bench::frames::{compare, compare_number, place, place_number, read, read_number};
 use bench::texts::words_of;
 use framing::compare::Compared;
+use framing::page::Request;
 use framing::read::Reading;
 
-// The words that the bytes spell, at the front of the lent ones; None where these are too few.
-pub fn spelt<'w>(bytes: &[u8], words: &'w mut [u16]) -> Option<&'w mut [u16]> {
-    if words_of(bytes, words) != 0 {
+// A frame's words, at the front of the lent ones; None where these are too few.
+pub fn spelt<'w>(frame: Frame, words: &'w mut [u16]) -> Option<&'w mut [u16]> {
+    if words_of(frame.words, words) != 0 {
         return None;
     }
-    words.get_mut(..bytes.len() / 2)
+    words.get_mut(..frame.words.len() / 2)
 }
 
-pub fn read_line(rt: &HostRuntime, table: &[u8], words: &[u16], parameter: u32, sample: u32) {
-    let answer = read(table, words, parameter, sample);
+pub fn read_line(rt: &HostRuntime, table: &[u8], words: &[u16], of: Request) {
+    let answer = read(table, words, of.parameter, of.sample);
     let number = read_number(answer);
     let (kind, width, raw, value) = match answer {
         Reading::Sample { raw, width, value } => (1, width, raw, value),
@@ -24,15 +26,8 @@ pub fn read_line(rt: &HostRuntime, table: &[u8], words: &[u16], parameter: u32, 
     let _ = println!(rt; "3 {number} {kind} {width} {raw} {value}");
 }
 
-pub fn place_line(
-    rt: &HostRuntime,
-    table: &[u8],
-    words: &mut [u16],
-    parameter: u32,
-    sample: u32,
-    value: u64,
-) {
-    let number = place_number(place(table, words, parameter, sample, value));
+pub fn place_line(rt: &HostRuntime, table: &[u8], words: &mut [u16], of: Request, value: u64) {
+    let number = place_number(place(table, words, of.parameter, of.sample, value));
     let sum = of_items(words);
     let _ = println!(rt; "4 {number} {sum}");
 }

@@ -13,10 +13,10 @@ const SLOTS: usize = 2000;
 fn requests_of<'r>(bytes: &[u8], lent: &'r mut [Request]) -> &'r [Request] {
     let mut c = Cursor { rest: bytes };
     for n in 0..lent.len() {
-        let (Some(parameter), Some(sample)) = (c.four(), c.four()) else {
+        let Some(request) = c.request() else {
             return &lent[..n];
         };
-        lent[n] = Request { parameter, sample };
+        lent[n] = request;
     }
     lent
 }
