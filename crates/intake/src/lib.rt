@@ -1,6 +1,7 @@
 // What the programs read and write: a file's bytes, read into a lent slice, and text.
 #![tactic(auto)]
 
+pub mod list;
 pub mod say;
 
 ghost use Rattle.std.specs.Prelude.{◌≡◌, IfSome, IfNone};

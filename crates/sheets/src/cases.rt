@@ -2,13 +2,13 @@
 ghost use Rattle.std.specs.Prelude.{◌≤◌, length};
 
 use crate::lent::{UNTOUCHED, kept};
+use intake::list::each_line;
 use intake::load;
 use intake::say::text;
-use lines::{Cursor, Found};
 use maker::make::{Made, make};
 use spell::answers::Number;
 use spell::integers::integer;
-use text::part::{between, past_first, up_to};
+use text::part::{past_first, up_to};
 use text::refusal::refusal_number;
 
 // What becomes of a sheet, and whether a lent byte that must stay has changed.
@@ -54,18 +54,8 @@ fn case(rt: &HostRuntime, line: &[u8], sheet: &mut [u8], table: &mut [u8]) {
 pub fn cases(rt: &HostRuntime, list: &[u8], sheet: &mut [u8], table: &mut [u8])
     requires { length list.now ≤ 65536 }
 {
-    let mut c = Cursor { at: 0, number: 0 };
-    while c.at < list.len() {
-        match c.next(list) {
-            Found::Line { start, end, next } => {
-                case(rt, between(list, start, end), sheet, table);
-                c = next;
-            }
-            Found::Refused(r) => {
-                let number = refusal_number(r);
-                let _ = print!(rt; "list: {number} at 0");
-                return;
-            }
-        }
+    if let Err(r) = each_line(list, |line| case(rt, line, sheet, table)) {
+        let number = refusal_number(r);
+        let _ = print!(rt; "list: {number} at 0");
     }
 }

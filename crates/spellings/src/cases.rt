@@ -3,11 +3,11 @@ ghost use Rattle.std.specs.Prelude.{◌≤◌, length};
 
 use crate::answer::{answer_text, refused};
 use crate::kind::Kind;
+use intake::list::each_line;
 use intake::say::text;
-use lines::{Cursor, Found};
 use spell::answers::Number;
 use spell::integers::integer;
-use text::part::{between, past_first, up_to};
+use text::part::{past_first, up_to};
 
 // The number that a line begins with.
 fn kind_of(line: &[u8]) -> Option<Kind> {
@@ -33,17 +33,7 @@ fn case(rt: &HostRuntime, line: &[u8]) {
 pub fn cases(rt: &HostRuntime, list: &[u8])
     requires { length list.now ≤ 65536 }
 {
-    let mut c = Cursor { at: 0, number: 0 };
-    while c.at < list.len() {
-        match c.next(list) {
-            Found::Line { start, end, next } => {
-                case(rt, between(list, start, end));
-                c = next;
-            }
-            Found::Refused(r) => {
-                refused(rt, r);
-                return;
-            }
-        }
+    if let Err(r) = each_line(list, |line| case(rt, line)) {
+        refused(rt, r);
     }
 }

@@ -2,10 +2,10 @@
 use Prim.Native.Nat.{◌-◌}
 use lib.ListN.{length}
 use Rattle.lines.specs.Line.{Ready}
-use Rattle.spellings.proofs.cases.cases.Given as goal
+use Rattle.intake.proofs.list.each_line.Given as goal
 
 abbrev pub invariant-loop-c : goal.invariant-loop-c
-invariant-loop-c l = Ready l.list l.c
+invariant-loop-c g l = Ready l.list l.c × goal.F-IsAlwaysCallable g l.each
 
 abbrev pub decreases-loop-c : goal.decreases-loop-c
-decreases-loop-c l = length l.list - l.c.at
+decreases-loop-c g l = length l.list - l.c.at
