@@ -36,7 +36,8 @@ fn stopped_text(rt: &HostRuntime, r: Refusal, line: u32) {
     let _ = print!(rt; " at {line}");
 }
 
-// The lines that the cursor finds, each with its bounds and its count of fields, and what it stops at.
+// The lines that the cursor finds, each with its bounds and its count of fields, and what it stops at. The bounds and the line
+// that is refused are told, which a walk over a list (`each_line`) does not tell.
 fn found_text(rt: &HostRuntime, sheet: &[u8])
     requires { length sheet.now ≤ 65536 }
 {
