@@ -6,11 +6,12 @@ ghost use Rattle.rules.specs.Ruled.{RuledBy, BasesOf};
 ghost use Rattle.carding.specs.Layout.{frame_bits};
 ghost use Rattle.carding.specs.Answer.{longest_stream, margins_told};
 
-use crate::say::{refused, text};
 use bench::cards::{card, card_from, card_number};
 use card::spans::span_of;
 use carding::carded::Carded;
+use intake::say::put;
 use listed::cards::{CARD_ROWS, put_card_heading, put_card_rows};
+use listed::listing::put_refused;
 use model::limits::SUBFRAMES;
 use rules::bases::{bases_of, frame_words};
 use stored::items::{Opened, Opening};
@@ -30,20 +31,16 @@ fn rows(
     requires bases_of { BasesOf t.now before.now }
     requires words_len { length words.now ≡ frame_words (view t.now) }
 {
-    let mut out = [0u8; CARD_ROWS];
-    let parameters = o.counts.parameters;
-    let mut i = 0;
-    while i < parameters {
-        let n = put_card_rows(t, o, words, position, i, before, &mut out);
-        text(rt, &out[..n]);
-        i += 1;
+    for i in 0..o.counts.parameters {
+        put::<CARD_ROWS, _>(
+            rt,
+            |out| put_card_rows(t, o, words, position, i, before, out),
+        );
     }
 }
 
-fn heading(rt: &HostRuntime) {
-    let mut out = [0u8; 37];
-    let n = put_card_heading(&mut out);
-    text(rt, &out[..n]);
+pub fn refused(rt: &HostRuntime, number: u32, line: u32) {
+    put::<50, _>(rt, |out| put_refused(out, number, line));
 }
 
 // The frame at the first position, whose words are there, and those behind it: each is looked for behind the last bit of the
@@ -82,6 +79,6 @@ pub fn show(rt: &HostRuntime, t: &[u8], stream: &[u8], words: &mut [u16]) {
     let Carded::Found { position, count: _ } = found else {
         return refused(rt, card_number(found), 0);
     };
-    heading(rt);
+    put::<37, _>(rt, |out| put_card_heading(out));
     frames(rt, t, o, stream, position, words);
 }

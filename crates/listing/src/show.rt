@@ -4,11 +4,11 @@ ghost use Rattle.model.specs.Frame.{frame_words};
 ghost use Rattle.model.specs.View.{view};
 ghost use Rattle.rules.specs.Ruled.{RuledBy, BasesOf};
 
-use crate::say::{refused, text};
 use bench::texts::words_of;
 use frame::fit::fit_of;
 use framing::fit::Fit;
-use listed::listing::{ROWS, fit_number, put_heading, put_parameter};
+use intake::say::put;
+use listed::listing::{ROWS, fit_number, put_heading, put_parameter, put_refused};
 use model::limits::SUBFRAMES;
 use rules::bases::bases_of;
 use stored::items::{Opened, Opening};
@@ -21,20 +21,13 @@ fn rows(rt: &HostRuntime, t: &[u8], o: Opened, words: &[u16], before: &[usize; S
     requires bases_of { BasesOf t.now before.now }
     requires words_len { length words.now ≡ frame_words (view t.now) }
 {
-    let mut out = [0u8; ROWS];
-    let parameters = o.counts.parameters;
-    let mut i = 0;
-    while i < parameters {
-        let n = put_parameter(t, o, words, i, before, &mut out);
-        text(rt, &out[..n]);
-        i += 1;
+    for i in 0..o.counts.parameters {
+        put::<ROWS, _>(rt, |out| put_parameter(t, o, words, i, before, out));
     }
 }
 
-fn heading(rt: &HostRuntime) {
-    let mut out = [0u8; 28];
-    let n = put_heading(&mut out);
-    text(rt, &out[..n]);
+pub fn refused(rt: &HostRuntime, number: u32, line: u32) {
+    put::<50, _>(rt, |out| put_refused(out, number, line));
 }
 
 // 18, 19 and 20, or the heading and the rows.
@@ -47,7 +40,7 @@ fn fitted(rt: &HostRuntime, t: &[u8], words: &[u16]) {
     let fit = fit_of(t, o, words, &before);
     match fit {
         Fit::Fits => {
-            heading(rt);
+            put::<28, _>(rt, |out| put_heading(out));
             rows(rt, t, o, words, &before);
         }
         Fit::Refused(_) => refused(rt, fit_number(fit), 0),

@@ -1,39 +1,30 @@
 // The cases of the list: a line for each, FILE LENT DESCRIPTION.
 ghost use Rattle.std.specs.Prelude.{◌≤◌, length};
 
-use crate::lent::{fill, kept};
-use crate::load::load;
-use crate::say::{number, refused, text};
-use lines::{Cursor, Found};
+use crate::lent::{UNTOUCHED, kept};
+use intake::list::each_line;
+use intake::load;
+use intake::say::text;
 use maker::make::{Made, make};
 use spell::answers::Number;
 use spell::integers::integer;
-use text::part::{between, past_first, up_to};
+use text::part::{past_first, up_to};
 use text::refusal::refusal_number;
 
 // What becomes of a sheet, and whether a lent byte that must stay has changed.
 fn answered(rt: &HostRuntime, sheet: &[u8], lent: &mut [u8]) {
-    fill(lent);
+    lent.fill(UNTOUCHED);
     match make(sheet, lent) {
         Made::Length(n) => {
-            text(rt, b"made ");
-            number(rt, n as u64);
+            let _ = print!(rt; "made {n}");
             kept(rt, lent, n);
         }
         Made::Refused { refusal, line } => {
-            refused(rt, refusal_number(refusal), line as u64);
+            let number = refusal_number(refusal);
+            let _ = print!(rt; "{number} at {line}");
             kept(rt, lent, 0);
         }
     }
-}
-
-// With the first `asked` bytes of the table lent, or all where it has no more.
-fn lent_and_answered(rt: &HostRuntime, sheet: &[u8], table: &mut [u8], asked: usize) {
-    if asked < table.len() {
-        answered(rt, sheet, &mut table[..asked]);
-        return;
-    }
-    answered(rt, sheet, table);
 }
 
 // The number that the line goes on with; 0 where there is none, which shows in the output.
@@ -47,13 +38,15 @@ fn lent_of(rt: &HostRuntime, line: &[u8]) -> usize {
     }
 }
 
+// With as many bytes of the table lent as are asked, or all where it has no more.
 fn case(rt: &HostRuntime, line: &[u8], sheet: &mut [u8], table: &mut [u8]) {
     let file = up_to(line, 32);
     let n = load(rt, file, sheet);
     let asked = lent_of(rt, past_first(line, 32));
+    let lent = asked.min(table.len());
     text(rt, file);
     text(rt, b": ");
-    lent_and_answered(rt, &sheet[..n], table, asked);
+    answered(rt, &sheet[..n], &mut table[..lent]);
     text(rt, b"\n");
 }
 
@@ -61,18 +54,8 @@ fn case(rt: &HostRuntime, line: &[u8], sheet: &mut [u8], table: &mut [u8]) {
 pub fn cases(rt: &HostRuntime, list: &[u8], sheet: &mut [u8], table: &mut [u8])
     requires { length list.now ≤ 65536 }
 {
-    let mut c = Cursor { at: 0, number: 0 };
-    while c.at < list.len() {
-        match c.next(list) {
-            Found::Line { start, end, next } => {
-                case(rt, between(list, start, end), sheet, table);
-                c = next;
-            }
-            Found::Refused(r) => {
-                text(rt, b"list: ");
-                refused(rt, refusal_number(r), 0);
-                return;
-            }
-        }
+    if let Err(r) = each_line(list, |line| case(rt, line, sheet, table)) {
+        let number = refusal_number(r);
+        let _ = print!(rt; "list: {number} at 0");
     }
 }

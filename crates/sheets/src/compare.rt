@@ -1,38 +1,35 @@
 // A comparison names the lowest subframe that differs, in whatever order the sheet lists the identifiers.
-use crate::load::load;
-use crate::say::{number, refused, text};
 use frame::compare::{compare, compare_number};
 use framing::compare::Compared;
+use intake::load;
+use intake::say::text;
 use maker::make::{Made, make};
 use text::part::front;
 use text::refusal::refusal_number;
 
+// A refusal's number, and the subframe that it names.
 fn compared_text(rt: &HostRuntime, a: Compared) {
-    match a {
-        Compared::Passes => text(rt, b"passes"),
-        Compared::Differs(s) => refused(rt, compare_number(a), s as u64),
-        Compared::Refused(_) => refused(rt, compare_number(a), 0),
-    }
+    let number = compare_number(a);
+    let _ = match a {
+        Compared::Passes => print!(rt; "passes"),
+        Compared::Differs(subframe) => print!(rt; "{number} at {subframe}"),
+        Compared::Refused(_) => print!(rt; "{number} at 0"),
+    };
 }
 
 // A frame of two subframes of four words, by the first word of each.
 fn compare_line(rt: &HostRuntime, table: &[u8], file: &[u8], first: u16, second: u16) {
     let words: [u16; 8] = [first, 0, 0, 0, second, 0, 0, 0];
     text(rt, file);
-    text(rt, b", words ");
-    number(rt, first as u64);
-    text(rt, b" and ");
-    number(rt, second as u64);
-    text(rt, b": ");
+    let _ = print!(rt; ", words {first} and {second}: ");
     compared_text(rt, compare(table, &words));
     text(rt, b"\n");
 }
 
 fn compare_lines(rt: &HostRuntime, table: &[u8], file: &[u8]) {
-    compare_line(rt, table, file, 0, 0);
-    compare_line(rt, table, file, 1, 0);
-    compare_line(rt, table, file, 0, 2);
-    compare_line(rt, table, file, 1, 2);
+    for (first, second) in [(0, 0), (1, 0), (0, 2), (1, 2)] {
+        compare_line(rt, table, file, first, second);
+    }
 }
 
 // The sheet has the identifiers of subframes 2 and 1, in this order: 2 in its first word, and 1.
@@ -46,8 +43,8 @@ pub fn compared(rt: &HostRuntime, sheet: &mut [u8], table: &mut [u8]) {
             }
         }
         Made::Refused { refusal, line } => {
-            refused(rt, refusal_number(refusal), line as u64);
-            text(rt, b"\n");
+            let number = refusal_number(refusal);
+            let _ = println!(rt; "{number} at {line}");
         }
     }
 }

@@ -1,22 +1,11 @@
-// The lent bytes: all 165 before a call, and those that a call must leave.
-use crate::say::text;
+// The lent bytes: all alike before a call, and those that a call must leave.
+use intake::say::text;
 
-pub fn fill(lent: &mut [u8]) {
-    let mut i = 0;
-    while i < lent.len() {
-        lent[i] = 165;
-        i += 1;
-    }
-}
+pub const UNTOUCHED: u8 = 165;
 
-// Says so where one of the bytes from index `from` on is not 165.
+// Says so where one of the bytes from index `from` on has changed.
 pub fn kept(rt: &HostRuntime, lent: &[u8], from: usize) {
-    let mut i = from;
-    while i < lent.len() {
-        if lent[i] != 165 {
-            text(rt, b" CHANGED");
-            return;
-        }
-        i += 1;
+    if lent.iter().skip(from).any(|b| *b != UNTOUCHED) {
+        text(rt, b" CHANGED");
     }
 }

@@ -5,12 +5,10 @@
 mod cases;
 mod compare;
 mod lent;
-mod load;
-mod say;
 
 use cases::cases;
 use compare::compared;
-use load::load;
+use intake::load;
 
 // 65,538: a sheet of 65,537 bytes is seen to be too long.
 fn main(rt: HostRuntime) {

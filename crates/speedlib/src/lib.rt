@@ -62,16 +62,13 @@ fn parameter_values(
     requires words_len { length words.now ≡ frame_words (view t.now) }
 {
     let e = parameter_at(t, o, i);
-    let count = e.count;
     let mut to = at;
-    let mut j = 0;
-    while j < count {
+    for j in 0..e.count {
         if values.len() <= to {
             return to;
         }
         values[to] = value_in(t, o, words, i, j, before);
         to += 1;
-        j += 1;
     }
     to
 }
@@ -88,12 +85,9 @@ fn all_values(
     requires bases_of { BasesOf t.now before.now }
     requires words_len { length words.now ≡ frame_words (view t.now) }
 {
-    let parameters = o.counts.parameters;
     let mut at = 0;
-    let mut i = 0;
-    while i < parameters {
+    for i in 0..o.counts.parameters {
         at = parameter_values(t, o, words, i, before, values, at);
-        i += 1;
     }
     at
 }
@@ -129,10 +123,8 @@ pub extern "C" fn speed_read_all(
     };
     let before = bases_of(table, o);
     let mut count = 0;
-    let mut n = 0;
-    while n < times {
+    for _ in 0..times {
         count = frame_values(table, o, words, &before, values);
-        n += 1;
     }
     count
 }

@@ -3,13 +3,13 @@
 // What is shown for a field that is long or has blanks round it is a label in angle brackets.
 #![tactic(auto)]
 
+mod answer;
+mod cases;
 mod kind;
-mod load;
-mod say;
 mod walk;
 
-use load::load;
-use walk::cases;
+use cases::cases;
+use intake::load;
 
 fn main(rt: HostRuntime) {
     let mut list = [0u8; 65536];

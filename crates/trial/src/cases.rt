@@ -1,60 +1,53 @@
 // Case after case.
-ghost use Rattle.std.specs.Prelude.{◌≤◌, ◌<◌, length};
-
-use crate::cards::card_case;
+use crate::cards::card_line;
+use crate::case::Case;
 use crate::cursor::Cursor;
-use crate::frames::{compare_case, place_case, read_case};
-use crate::make::make_case;
-use crate::pages::page_case;
-use crate::say::ended;
-use crate::tables::{check_case, mnemonic_case, name_case};
+use crate::frames::{compare_line, place_line, read_line, spelt};
+use crate::make::make_line;
+use crate::pages::page_line;
+use crate::tables::{check_line, mnemonic_line, name_line};
+use intake::say::text;
 
-// One case, by its kind; another kind is cut off.
-fn case(rt: &HostRuntime, s: &[u8], c: Cursor, words: &mut [u16], table: &mut [u8]) -> Cursor
-    requires at_in_bounds { c.at < length s.now }
-    requires in_bounds { (40000 ≤ length words.old) × (200000 ≤ length table.old) }
-    ensures { (c.at < result.at) × (result.at ≤ length s.now) }
-{
-    let at = c.at;
-    let kind = s[at];
-    let first = Cursor {
-        at: at + 1,
-        cut: false,
-    };
-    match kind {
-        1 => make_case(rt, s, first, table),
-        2 => check_case(rt, s, first),
-        3 => read_case(rt, s, first, words),
-        4 => place_case(rt, s, first, words),
-        5 => compare_case(rt, s, first, words),
-        6 => name_case(rt, s, first),
-        7 => mnemonic_case(rt, s, first),
-        8 => card_case(rt, 8, s, first, words),
-        9 => page_case(rt, s, first, words),
-        10 => card_case(rt, 10, s, first, words),
-        _ => first.cut_off(),
-    }
-}
-
-fn cases(rt: &HostRuntime, s: &[u8], words: &mut [u16], table: &mut [u8])
-    requires { (40000 ≤ length words.old) × (200000 ≤ length table.old) }
-{
-    let mut c = Cursor { at: 0, cut: false };
-    while c.at < s.len() {
-        c = case(rt, s, c, words, table);
-        if c.cut {
-            ended(rt);
-            return;
+// The line of a case; none where more is lent than there is room for.
+fn line(rt: &HostRuntime, case: Case, words: &mut [u16], table: &mut [u8]) -> Option<()> {
+    match case {
+        Case::Make(sheet, lent) => make_line(rt, sheet, table.get_mut(..lent)?),
+        Case::Check(table) => check_line(rt, table),
+        Case::Read(frame, of) => read_line(rt, frame.table, spelt(frame, words)?, of),
+        Case::Place(frame, of, value) => {
+            place_line(rt, frame.table, spelt(frame, words)?, of, value)
+        }
+        Case::Compare(frame) => compare_line(rt, frame.table, spelt(frame, words)?),
+        Case::Name(table, parameter) => name_line(rt, table, parameter),
+        Case::NameBy(table, mnemonic) => mnemonic_line(rt, table, mnemonic),
+        Case::Card(table, stream, from, lent) => {
+            card_line(rt, table, stream, from, words.get_mut(..lent)?)
+        }
+        Case::Page(frame, asked, lent) => {
+            page_line(rt, frame.table, spelt(frame, words)?, asked, lent)?
         }
     }
+    Some(())
+}
+
+// A line for each case; None where one is cut off.
+fn lines(rt: &HostRuntime, file: &[u8], words: &mut [u16], table: &mut [u8]) -> Option<()> {
+    let mut c = Cursor { rest: file };
+    while !c.rest.is_empty() {
+        let case = c.case()?;
+        line(rt, case, words, table)?;
+    }
+    Some(())
 }
 
 // Of a file that is too long no case is run.
-pub fn run(rt: &HostRuntime, s: &[u8], words: &mut [u16], table: &mut [u8])
-    requires { (40000 ≤ length words.old) × (200000 ≤ length table.old) }
-{
-    if 500000 < s.len() {
-        return ended(rt);
+pub fn run(rt: &HostRuntime, file: &[u8], words: &mut [u16], table: &mut [u8]) {
+    if 500000 < file.len() || lines(rt, file, words, table).is_none() {
+        ended(rt);
     }
-    cases(rt, s, words, table);
+}
+
+// What the output says of a file that is missing, of one too long, and of a case that is cut off.
+pub fn ended(rt: &HostRuntime) {
+    text(rt, b"end of cases\n");
 }

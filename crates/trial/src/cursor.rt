@@ -1,134 +1,55 @@
-// The place in the file of cases, by value. An argument that is cut off, or beyond its limit, leaves the place cut, and it
-// stays so: a case looks once, behind its last argument.
-ghost use Rattle.std.specs.Prelude.{◌+◌, ◌≤◌, ◌≡◌};
-ghost use Rattle.trial.specs.Onward.{Inside, Onward, Bounds};
+// The place in the file of cases: the bytes that are left. An argument that is cut off is None, and ends the run.
+ghost use Rattle.std.specs.Prelude.{◌≤◌, ◌<◌, length, IsSome};
 
 #[derive(Clone, Copy)]
-pub struct Cursor {
-    pub at: usize,
-    pub cut: bool,
+pub struct Cursor<'s> {
+    pub rest: &'s [u8],
 }
 
-#[derive(Clone, Copy)]
-pub struct Four {
-    pub value: u32,
-    pub next: Cursor,
-}
-
-#[derive(Clone, Copy)]
-pub struct Eight {
-    pub value: u64,
-    pub next: Cursor,
-}
-
-#[derive(Clone, Copy)]
-pub struct Part {
-    pub start: usize,
-    pub end: usize,
-    pub next: Cursor,
-}
-
-impl Cursor {
-    pub fn cut_off(self) -> Cursor
-        ensures { result.at ≡ self.at }
-    {
-        Cursor {
-            at: self.at,
-            cut: true,
-        }
-    }
-
-    pub fn four(self, s: &[u8]) -> Four
-        requires { Inside s.now self }
-        ensures { Onward s.now self result.next }
-    {
-        let at = self.at;
-        if s.len() - at < 4 {
-            let next = self.cut_off();
-            return Four { value: 0, next };
-        }
-        Four {
-            value: lay::four_at(s, at) as u32,
-            next: Cursor {
-                at: at + 4,
-                cut: self.cut,
-            },
-        }
-    }
-
-    pub fn eight(self, s: &[u8]) -> Eight
-        requires { Inside s.now self }
-        ensures { Onward s.now self result.next }
-    {
-        let at = self.at;
-        if s.len() - at < 8 {
-            let next = self.cut_off();
-            return Eight { value: 0, next };
-        }
-        Eight {
-            value: lay::eight_at(s, at),
-            next: Cursor {
-                at: at + 8,
-                cut: self.cut,
-            },
-        }
-    }
-
+impl<'s> Cursor<'s> {
     // The next n bytes.
-    fn run(self, s: &[u8], n: usize) -> Part
-        requires { Inside s.now self }
-        ensures { Onward s.now self result.next × Bounds s.now result.start result.end × (result.end ≤ result.start + n) }
+    fn run(&mut self, n: usize) -> Option<&'s [u8]>
+        ensures { length self.new.rest.now ≤ length self.old.rest.now }
     {
-        let at = self.at;
-        if s.len() - at < n {
-            let next = self.cut_off();
-            return Part {
-                start: 0,
-                end: 0,
-                next,
-            };
-        }
-        Part {
-            start: at,
-            end: at + n,
-            next: Cursor {
-                at: at + n,
-                cut: self.cut,
-            },
-        }
+        let (run, rest) = self.rest.split_at_checked(n)?;
+        self.rest = rest;
+        Some(run)
     }
 
-    // A length and that many bytes.
-    pub fn bytes(self, s: &[u8]) -> Part
-        requires { Inside s.now self }
-        ensures { Onward s.now self result.next × Bounds s.now result.start result.end }
+    fn chunk<const N: usize>(&mut self) -> Option<[u8; N]>
+        ensures onward { length self.new.rest.now ≤ length self.old.rest.now }
+        ensures taken { IsSome result → 0 < N → length self.new.rest.now < length self.old.rest.now }
     {
-        let length = self.four(s);
-        let next = length.next;
-        next.run(s, length.value as usize)
+        let (chunk, rest) = self.rest.split_first_chunk::<N>()?;
+        self.rest = rest;
+        Some(*chunk)
     }
 
-    // A count and eight bytes for each pair of numbers.
-    pub fn pairs(self, s: &[u8]) -> Part
-        requires { Inside s.now self }
-        ensures { Onward s.now self result.next × Bounds s.now result.start result.end }
+    pub fn one(&mut self) -> Option<u8>
+        ensures onward { length self.new.rest.now ≤ length self.old.rest.now }
+        ensures taken { IsSome result → length self.new.rest.now < length self.old.rest.now }
     {
-        let count = self.four(s);
-        let next = count.next;
-        next.run(s, 8 * count.value as usize)
+        let [byte] = self.chunk::<1>()?;
+        Some(byte)
     }
 
-    // A count, at most 40,000, and two bytes for each word.
-    pub fn words(self, s: &[u8]) -> Part
-        requires { Inside s.now self }
-        ensures { Onward s.now self result.next × Bounds s.now result.start result.end × (result.end ≤ result.start + 80000) }
+    pub fn four(&mut self) -> Option<u32>
+        ensures { length self.new.rest.now ≤ length self.old.rest.now }
     {
-        let count = self.four(s);
-        let next = count.next;
-        let n = count.value as usize;
-        if 40000 < n {
-            return next.cut_off().run(s, 0);
-        }
-        next.run(s, 2 * n)
+        self.chunk::<4>().map(u32::from_le_bytes)
+    }
+
+    pub fn eight(&mut self) -> Option<u64>
+        ensures { length self.new.rest.now ≤ length self.old.rest.now }
+    {
+        self.chunk::<8>().map(u64::from_le_bytes)
+    }
+
+    // A count and so many items of that many bytes each.
+    pub fn items(&mut self, size: u32) -> Option<&'s [u8]>
+        ensures { length self.new.rest.now ≤ length self.old.rest.now }
+    {
+        let count = self.four()?;
+        self.run(size as usize * count as usize)
     }
 }

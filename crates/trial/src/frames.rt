@@ -1,152 +1,44 @@
 // Kinds 3, 4 and 5: a frame read, filled and compared by a table.
-ghost use Rattle.std.specs.Prelude.{◌+◌, ◌*◌, ◌≤◌, length};
-ghost use Rattle.trial.specs.Onward.{Inside, Onward, Bounds};
-
-use crate::cursor::Cursor;
-use crate::say::{reading, three};
-use crate::sum::of_words;
+use crate::case::Frame;
+use crate::sum::of_items;
 use bench::frames::{compare, compare_number, place, place_number, read, read_number};
+use bench::texts::words_of;
 use framing::compare::Compared;
+use framing::page::Request;
 use framing::read::Reading;
-use listed::listing::put_words;
-use text::part::between;
 
-// A table from start to end, and a frame's words, two bytes each.
-#[derive(Clone, Copy)]
-pub struct Lent {
-    pub start: usize,
-    pub end: usize,
-    pub from: usize,
-    pub to: usize,
-    pub next: Cursor,
-}
-
-pub fn lent_at(s: &[u8], c: Cursor) -> Lent
-    requires { Inside s.now c }
-    ensures { Onward s.now c result.next × Bounds s.now result.start result.end × Bounds s.now result.from result.to × (result.to ≤ result.from + 80000) }
-{
-    let table = c.bytes(s);
-    let words = table.next.words(s);
-    let next = words.next;
-    Lent {
-        start: table.start,
-        end: table.end,
-        from: words.start,
-        to: words.end,
-        next,
+// A frame's words, at the front of the lent ones; None where these are too few.
+pub fn spelt<'w>(frame: Frame, words: &'w mut [u16]) -> Option<&'w mut [u16]> {
+    if words_of(frame.words, words) != 0 {
+        return None;
     }
+    words.get_mut(..frame.words.len() / 2)
 }
 
-// The words that the bytes spell, at the front; answers how many.
-pub fn filled(bytes: &[u8], words: &mut [u16]) -> usize
-    requires { length bytes.now ≤ 2 * length words.old }
-    ensures { result ≤ length words.old }
-{
-    put_words(bytes, words);
-    bytes.len() / 2
-}
-
-pub fn first(words: &[u16], n: usize) -> &[u16]
-    requires { n ≤ length words.now }
-{
-    &words[..n]
-}
-
-fn read_line(rt: &HostRuntime, t: &[u8], words: &[u16], parameter: u32, sample: u32) {
-    let answer = read(t, words, parameter, sample);
+pub fn read_line(rt: &HostRuntime, table: &[u8], words: &[u16], of: Request) {
+    let answer = read(table, words, of.parameter, of.sample);
     let number = read_number(answer);
-    match answer {
-        Reading::Sample { raw, width, value } => reading(rt, number, 1, width, raw, value),
-        Reading::OverlapDiffers { raw, width, value } => reading(rt, number, 2, width, raw, value),
-        Reading::Refused(_) => reading(rt, number, 0, 0, 0, 0),
-    }
+    let (kind, width, raw, value) = match answer {
+        Reading::Sample { raw, width, value } => (1, width, raw, value),
+        Reading::OverlapDiffers { raw, width, value } => (2, width, raw, value),
+        Reading::Refused(_) => (0, 0, 0, 0),
+    };
+    let _ = println!(rt; "3 {number} {kind} {width} {raw} {value}");
 }
 
-pub fn read_case(rt: &HostRuntime, s: &[u8], c: Cursor, words: &mut [u16]) -> Cursor
-    requires inside { Inside s.now c }
-    requires in_bounds { 40000 ≤ length words.old }
-    ensures { Onward s.now c result }
-{
-    let lent = lent_at(s, c);
-    let p = lent.next.four(s);
-    let j = p.next.four(s);
-    let next = j.next;
-    if next.cut {
-        return next;
-    }
-    let n = filled(between(s, lent.from, lent.to), words);
-    read_line(
-        rt,
-        between(s, lent.start, lent.end),
-        first(words, n),
-        p.value,
-        j.value,
-    );
-    next
+pub fn place_line(rt: &HostRuntime, table: &[u8], words: &mut [u16], of: Request, value: u64) {
+    let number = place_number(place(table, words, of.parameter, of.sample, value));
+    let sum = of_items(words);
+    let _ = println!(rt; "4 {number} {sum}");
 }
 
-fn place_line(
-    rt: &HostRuntime,
-    t: &[u8],
-    words: &mut [u16],
-    parameter: u32,
-    sample: u32,
-    value: u64,
-) {
-    let number = place_number(place(t, words, parameter, sample, value));
-    three(rt, 4, number, of_words(words));
-}
-
-pub fn place_case(rt: &HostRuntime, s: &[u8], c: Cursor, words: &mut [u16]) -> Cursor
-    requires inside { Inside s.now c }
-    requires in_bounds { 40000 ≤ length words.old }
-    ensures { Onward s.now c result }
-{
-    let lent = lent_at(s, c);
-    let p = lent.next.four(s);
-    let j = p.next.four(s);
-    let v = j.next.eight(s);
-    let next = v.next;
-    if next.cut {
-        return next;
-    }
-    let n = filled(between(s, lent.from, lent.to), words);
-    place_line(
-        rt,
-        between(s, lent.start, lent.end),
-        &mut words[..n],
-        p.value,
-        j.value,
-        v.value,
-    );
-    next
-}
-
-// The subframe that differs, or 0.
-fn subframe_of(answer: Compared) -> u64 {
-    match answer {
-        Compared::Differs(subframe) => subframe as u64,
-        Compared::Passes => 0,
-        Compared::Refused(_) => 0,
-    }
-}
-
-fn compare_line(rt: &HostRuntime, t: &[u8], words: &[u16]) {
-    let answer = compare(t, words);
-    three(rt, 5, compare_number(answer), subframe_of(answer));
-}
-
-pub fn compare_case(rt: &HostRuntime, s: &[u8], c: Cursor, words: &mut [u16]) -> Cursor
-    requires inside { Inside s.now c }
-    requires in_bounds { 40000 ≤ length words.old }
-    ensures { Onward s.now c result }
-{
-    let lent = lent_at(s, c);
-    let next = lent.next;
-    if next.cut {
-        return next;
-    }
-    let n = filled(between(s, lent.from, lent.to), words);
-    compare_line(rt, between(s, lent.start, lent.end), first(words, n));
-    next
+// With the subframe that differs, or 0.
+pub fn compare_line(rt: &HostRuntime, table: &[u8], words: &[u16]) {
+    let answer = compare(table, words);
+    let number = compare_number(answer);
+    let subframe = match answer {
+        Compared::Differs(subframe) => subframe,
+        _ => 0,
+    };
+    let _ = println!(rt; "5 {number} {subframe}");
 }

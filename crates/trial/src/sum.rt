@@ -3,61 +3,41 @@ ghost use Rattle.std.specs.Prelude.{◌<◌};
 
 use framing::page::Outcome;
 
-fn step(h: u64, x: u64) -> u64
-    requires { (h < 4294967291) × (x < 4294967296) }
-    ensures { result < 4294967291 }
-{
-    (h * 257 + x + 1) % 4294967291
-}
+const MODULUS: u64 = 4294967291;
 
-pub fn of_bytes(s: &[u8]) -> u64 {
-    let mut h: u64 = 0;
-    let mut i = 0;
-    while i < s.len() {
-        h = step(h, s[i] as u64);
-        i += 1;
-    }
-    h
-}
-
-pub fn of_words(s: &[u16]) -> u64 {
-    let mut h: u64 = 0;
-    let mut i = 0;
-    while i < s.len() {
-        h = step(h, s[i] as u64);
-        i += 1;
-    }
-    h
-}
-
-// The low half of 64 bits, and the high half.
 #[derive(Clone, Copy)]
-struct Halves {
-    low: u64,
-    high: u64,
+pub struct Sum {
+    pub value: u64,
+    ghost below: { value < 4294967291 },
 }
 
-// Of a negative value the halves of its two's complement.
-fn halves_of(v: i64) -> Halves
-    ensures { (result.low < 4294967296) × (result.high < 4294967296) }
-{
-    let n = v.cast_unsigned();
-    Halves {
-        low: bits::low_bits_of(n, 32),
-        high: bits::bits_above(n, 32),
+impl Sum {
+    pub fn new() -> Sum {
+        Sum { value: 0 }
+    }
+
+    pub fn item(self, x: u32) -> Sum {
+        Sum {
+            value: (self.value * 257 + x as u64 + 1) % MODULUS,
+        }
+    }
+
+    // An outcome's six numbers, the value's low half before its high half.
+    pub fn outcome(self, o: Outcome) -> Sum {
+        let value = o.value.cast_unsigned();
+        self.item(o.number)
+            .item(o.kind)
+            .item(o.width)
+            .item(o.raw)
+            .item((value & 0xffff_ffff) as u32)
+            .item((value >> 32) as u32)
     }
 }
 
-// The sum h with an outcome's six numbers behind it.
-pub fn of_outcome(h: u64, o: Outcome) -> u64
-    requires { h < 4294967291 }
-    ensures { result < 4294967291 }
-{
-    let value = halves_of(o.value);
-    let a = step(h, o.number as u64);
-    let b = step(a, o.kind as u64);
-    let c = step(b, o.width as u64);
-    let d = step(c, o.raw as u64);
-    let e = step(d, value.low);
-    step(e, value.high)
+pub fn of_items<T: Copy + Into<u32>>(items: &[T]) -> u64 {
+    let mut sum = Sum::new();
+    for x in items {
+        sum = sum.item((*x).into());
+    }
+    sum.value
 }

@@ -2,27 +2,15 @@
 ghost use Rattle.std.specs.Prelude.{◌≡◌};
 ghost use Rattle.stored.specs.Entry.{OpenedOf};
 ghost use Rattle.table.specs.Answers.{asked_number, asked_mnemonic, AskedHere, place_answered};
-ghost use Rattle.trial.specs.Onward.{Inside, Onward};
 
-use crate::cursor::Cursor;
-use crate::say::{four, two};
 use bench::tables::{check, check_number, name, name_by, name_by_number, name_number};
 use stored::items::{Opened, Opening, parameter_at};
 use table::check::opening;
 use table::naming::{Asked, numbered, with_mnemonic};
-use text::part::between;
 
-pub fn check_case(rt: &HostRuntime, s: &[u8], c: Cursor) -> Cursor
-    requires { Inside s.now c }
-    ensures { Onward s.now c result }
-{
-    let t = c.bytes(s);
-    let next = t.next;
-    if next.cut {
-        return next;
-    }
-    two(rt, 2, check_number(check(between(s, t.start, t.end))));
-    next
+pub fn check_line(rt: &HostRuntime, table: &[u8]) {
+    let number = check_number(check(table));
+    let _ = println!(rt; "2 {number}");
 }
 
 // A slice doesn't say where it stands: the place comes from the parameter's entry. 0 where refused.
@@ -50,30 +38,11 @@ fn start_of(t: &[u8], parameter: u32) -> usize
     }
 }
 
-fn name_line(rt: &HostRuntime, t: &[u8], parameter: u32) {
-    let start = start_of(t, parameter);
-    let found = name(t, parameter);
-    four(
-        rt,
-        6,
-        name_number(t, parameter),
-        start as u64,
-        found.len() as u64,
-    );
-}
-
-pub fn name_case(rt: &HostRuntime, s: &[u8], c: Cursor) -> Cursor
-    requires { Inside s.now c }
-    ensures { Onward s.now c result }
-{
-    let t = c.bytes(s);
-    let p = t.next.four(s);
-    let next = p.next;
-    if next.cut {
-        return next;
-    }
-    name_line(rt, between(s, t.start, t.end), p.value);
-    next
+pub fn name_line(rt: &HostRuntime, table: &[u8], parameter: u32) {
+    let number = name_number(table, parameter);
+    let start = start_of(table, parameter);
+    let length = name(table, parameter).len();
+    let _ = println!(rt; "6 {number} {start} {length}");
 }
 
 fn start_by(t: &[u8], mnemonic: &[u8]) -> usize
@@ -86,28 +55,9 @@ fn start_by(t: &[u8], mnemonic: &[u8]) -> usize
     }
 }
 
-fn mnemonic_line(rt: &HostRuntime, t: &[u8], mnemonic: &[u8]) {
-    let start = start_by(t, mnemonic);
-    let found = name_by(t, mnemonic);
-    four(
-        rt,
-        7,
-        name_by_number(t, mnemonic),
-        start as u64,
-        found.len() as u64,
-    );
-}
-
-pub fn mnemonic_case(rt: &HostRuntime, s: &[u8], c: Cursor) -> Cursor
-    requires { Inside s.now c }
-    ensures { Onward s.now c result }
-{
-    let t = c.bytes(s);
-    let m = t.next.bytes(s);
-    let next = m.next;
-    if next.cut {
-        return next;
-    }
-    mnemonic_line(rt, between(s, t.start, t.end), between(s, m.start, m.end));
-    next
+pub fn mnemonic_line(rt: &HostRuntime, table: &[u8], mnemonic: &[u8]) {
+    let number = name_by_number(table, mnemonic);
+    let start = start_by(table, mnemonic);
+    let length = name_by(table, mnemonic).len();
+    let _ = println!(rt; "7 {number} {start} {length}");
 }

@@ -1,9 +1,0 @@
--- Fields 0 to before n.
-use Prim.Native.Nat.{◌≤◌, ◌-◌}
-use Rattle.spellings.proofs.walk.each_field.Given as goal
-
-abbrev pub invariant-loop-k : goal.invariant-loop-k
-invariant-loop-k l = l.k ≤ l.n
-
-abbrev pub decreases-loop-k : goal.decreases-loop-k
-decreases-loop-k l = l.n - l.k

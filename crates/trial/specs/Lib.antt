@@ -1,2 +1,0 @@
-pub mod Onward
-pub mod Paging
