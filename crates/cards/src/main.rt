@@ -6,7 +6,6 @@ mod show;
 use bench::sheets::make;
 use carding::carded::LONGEST_STREAM;
 use intake::file_bytes;
-use maker::make::Made;
 use model::limits::{SUBFRAMES, WORDS};
 use show::{refused, show};
 use text::refusal::refusal_number;
@@ -21,7 +20,7 @@ fn main(rt: HostRuntime) {
     let n = file_bytes(&rt, b"sheet.frcs", &mut sheet).unwrap_or(0);
     let m = file_bytes(&rt, b"card.bin", &mut card).unwrap_or(0);
     match make(&sheet[..n], &mut table) {
-        Made::Length(length) => show(&rt, &table[..length], &card[..m], &mut words),
-        Made::Refused { refusal, line } => refused(&rt, refusal_number(refusal), line),
+        Ok(length) => show(&rt, &table[..length], &card[..m], &mut words),
+        Err(rejected) => refused(&rt, refusal_number(rejected.refusal), rejected.line),
     }
 }

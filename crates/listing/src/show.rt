@@ -1,28 +1,17 @@
 // A frame shown by a table. The table is opened although it was just made, and the frame judged once: the rows rest on both.
-ghost use Rattle.std.specs.Prelude.{◌≡◌, length};
-ghost use Rattle.model.specs.Frame.{frame_words};
-ghost use Rattle.model.specs.View.{view};
-ghost use Rattle.rules.specs.Ruled.{RuledBy, BasesOf};
-
 use bench::texts::words_of;
 use frame::fit::fit_of;
-use framing::fit::Fit;
+use frame::sized::Frame;
 use intake::say::put;
-use listed::listing::{ROWS, fit_number, put_heading, put_parameter, put_refused};
-use model::limits::SUBFRAMES;
-use rules::bases::bases_of;
-use stored::items::{Opened, Opening};
+use listed::listing::{ROWS, put_heading, put_parameter, put_refused};
 use table::check::opening;
 use table::reason::{Reason, reason_number};
 
 // The rows of each parameter.
-fn rows(rt: &HostRuntime, t: &[u8], o: Opened, words: &[u16], before: &[usize; SUBFRAMES])
-    requires ruled_by { RuledBy t.now o }
-    requires bases_of { BasesOf t.now before.now }
-    requires words_len { length words.now ≡ frame_words (view t.now) }
-{
-    for i in 0..o.counts.parameters {
-        put::<ROWS, _>(rt, |out| put_parameter(t, o, words, i, before, out));
+fn rows(rt: &HostRuntime, f: &Frame) {
+    let r = f.ruled;
+    for i in 0..r.declared.table.opened.counts.parameters {
+        put::<ROWS, _>(rt, |out| put_parameter(f, i, out));
     }
 }
 
@@ -32,18 +21,15 @@ pub fn refused(rt: &HostRuntime, number: u32, line: u32) {
 
 // 18, 19 and 20, or the heading and the rows.
 fn fitted(rt: &HostRuntime, t: &[u8], words: &[u16]) {
-    let opened = opening(t);
-    let Opening::Table(o) = opened else {
+    let Some(r) = opening(t) else {
         return refused(rt, reason_number(Reason::NoTable), 0);
     };
-    let before = bases_of(t, o);
-    let fit = fit_of(t, o, words, &before);
-    match fit {
-        Fit::Fits => {
+    match fit_of(&r, words) {
+        Ok(_) => {
             put::<28, _>(rt, |out| put_heading(out));
-            rows(rt, t, o, words, &before);
+            rows(rt, &Frame { ruled: &r, words });
         }
-        Fit::Refused(_) => refused(rt, fit_number(fit), 0),
+        Err(reason) => refused(rt, reason_number(reason), 0),
     }
 }
 

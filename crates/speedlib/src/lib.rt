@@ -1,111 +1,58 @@
 // All samples of a frame by a table that is opened once: what speed/ compares with plain C.
 #![tactic(auto)]
 
-ghost use Rattle.std.specs.Prelude.{◌≡◌, ◌<◌, length};
-ghost use Rattle.model.specs.Frame.{frame_words};
+ghost use Rattle.std.specs.Prelude.{◌<◌};
 ghost use Rattle.model.specs.Stored.{parameters_in, sample_count_in};
-ghost use Rattle.model.specs.View.{view};
-ghost use Rattle.rules.specs.Ruled.{RuledBy, BasesOf};
 
 use frame::fit::fit_of;
 use frame::read::sample_in;
-use framing::fit::Fit;
+use frame::sized::Frame;
 use framing::read::Reading;
-use model::limits::SUBFRAMES;
-use rules::bases::bases_of;
-use stored::items::{Opened, Opening, parameter_at};
+use rules::ruled::RuledTable;
 use table::check::opening;
 
 // Sample j of parameter i, both counted from 0.
-fn value_in(
-    t: &[u8],
-    o: Opened,
-    words: &[u16],
-    i: usize,
-    j: usize,
-    before: &[usize; SUBFRAMES],
-) -> i64
-    requires ruled_by { RuledBy t.now o }
-    requires bases_of { BasesOf t.now before.now }
-    requires i_bound { i < parameters_in t.now }
-    requires j_bound { j < sample_count_in t.now i }
-    requires words_len { length words.now ≡ frame_words (view t.now) }
+fn value_in(f: &Frame, i: usize, j: usize) -> i64
+    requires i_bound { i < parameters_in f.now.ruled.now.declared.table.bytes.now }
+    requires j_bound { j < sample_count_in f.now.ruled.now.declared.table.bytes.now i }
 {
-    match sample_in(t, o, words, i, j, before) {
-        Reading::Sample {
-            raw: _,
-            width: _,
-            value,
-        } => value,
-        Reading::OverlapDiffers {
-            raw: _,
-            width: _,
-            value,
-        } => value,
-        Reading::Refused(_) => 0,
+    match sample_in(f, i, j) {
+        Reading::Sample { value, .. } => value,
+        Reading::OverlapDiffers { value, .. } => value,
     }
 }
 
 // The samples of parameter i, from `at` on, as far as there is room; answers where they end.
-fn parameter_values(
-    t: &[u8],
-    o: Opened,
-    words: &[u16],
-    i: usize,
-    before: &[usize; SUBFRAMES],
-    values: &mut [i64],
-    at: usize,
-) -> usize
-    requires ruled_by { RuledBy t.now o }
-    requires bases_of { BasesOf t.now before.now }
-    requires i_bound { i < parameters_in t.now }
-    requires words_len { length words.now ≡ frame_words (view t.now) }
+fn parameter_values(f: &Frame, i: usize, values: &mut [i64], at: usize) -> usize
+    requires i_bound { i < parameters_in f.now.ruled.now.declared.table.bytes.now }
 {
-    let e = parameter_at(t, o, i);
+    let e = f.ruled.declared.table.parameter_at(i);
     let mut to = at;
     for j in 0..e.count {
         if values.len() <= to {
             return to;
         }
-        values[to] = value_in(t, o, words, i, j, before);
+        values[to] = value_in(f, i, j);
         to += 1;
     }
     to
 }
 
 // The samples of every parameter.
-fn all_values(
-    t: &[u8],
-    o: Opened,
-    words: &[u16],
-    before: &[usize; SUBFRAMES],
-    values: &mut [i64],
-) -> usize
-    requires ruled_by { RuledBy t.now o }
-    requires bases_of { BasesOf t.now before.now }
-    requires words_len { length words.now ≡ frame_words (view t.now) }
-{
+fn all_values(f: &Frame, values: &mut [i64]) -> usize {
+    let r = f.ruled;
     let mut at = 0;
-    for i in 0..o.counts.parameters {
-        at = parameter_values(t, o, words, i, before, values, at);
+    for i in 0..r.declared.table.opened.counts.parameters {
+        at = parameter_values(f, i, values, at);
     }
     at
 }
 
 // A frame, with its words judged; none of its samples where it is refused.
-fn frame_values(
-    t: &[u8],
-    o: Opened,
-    words: &[u16],
-    before: &[usize; SUBFRAMES],
-    values: &mut [i64],
-) -> usize
-    requires ruled_by { RuledBy t.now o }
-    requires bases_of { BasesOf t.now before.now }
-{
-    match fit_of(t, o, words, before) {
-        Fit::Fits => all_values(t, o, words, before, values),
-        Fit::Refused(_) => 0,
+fn frame_values(r: &RuledTable, words: &[u16], values: &mut [i64]) -> usize {
+    match fit_of(r, words) {
+        Ok(_) => all_values(&Frame { ruled: r, words }, values),
+        Err(_) => 0,
     }
 }
 
@@ -117,14 +64,12 @@ pub extern "C" fn speed_read_all(
     values: &mut [i64],
     times: u32,
 ) -> usize {
-    let opened = opening(table);
-    let Opening::Table(o) = opened else {
+    let Some(r) = opening(table) else {
         return 0;
     };
-    let before = bases_of(table, o);
     let mut count = 0;
     for _ in 0..times {
-        count = frame_values(table, o, words, &before, values);
+        count = frame_values(&r, words, values);
     }
     count
 }

@@ -2,11 +2,12 @@
 use mathlib.Core.Path.{sym, ap, subst, ◌∙◌}
 use Rattle.model.proofs.Laying.{accepted_laid}
 use Rattle.table.specs.Answers.{AskedHere, place_answered}
-use Rattle.table.specs.declared.naming.Asked.{Asked}
 use Rattle.table.proofs.Accepting.{opened_accepted, opened_not}
 use Rattle.table.proofs.Asking.{mnemonic_asked, mnemonic_table, mnemonic_no_table}
 use Rattle.trial.proofs.Places.{place_refused}
 use Rattle.trial.proofs.tables.start_by.Goals as goal
+use Rattle.std.specs.Prelude.{Result, Ok, Err}
+use Rattle.table.specs.Answers.{Asked}
 
 pub with_mnemonic-requires : goal.with_mnemonic-requires
 with_mnemonic-requires c =

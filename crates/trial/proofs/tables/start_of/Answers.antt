@@ -1,11 +1,12 @@
 -- What is asked for is in the table.
 use mathlib.Core.Path.{sym, ap, subst, ◌∙◌}
 use Rattle.table.specs.Answers.{AskedHere, place_answered}
-use Rattle.table.specs.declared.naming.Asked.{Asked}
 use Rattle.table.proofs.Accepting.{opened_accepted, opened_not}
 use Rattle.table.proofs.Asking.{number_asked, number_table, number_no_table}
 use Rattle.trial.proofs.Places.{place_refused}
 use Rattle.trial.proofs.tables.start_of.Goals as goal
+use Rattle.std.specs.Prelude.{Result, Ok, Err}
+use Rattle.table.specs.Answers.{Asked}
 
 pub start_in-requires : goal.start_in-requires
 start_in-requires c =
