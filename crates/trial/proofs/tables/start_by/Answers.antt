@@ -1,32 +1,33 @@
 -- What is asked for is in the table.
-use mathlib.Core.Path.{sym, ap, subst, ◌∙◌}
-use Rattle.model.proofs.Laying.{accepted_laid}
-use Rattle.table.specs.Answers.{AskedHere, place_answered}
-use Rattle.table.proofs.Accepting.{opened_accepted, opened_not}
+use mathlib.Core.Path.{◌≡◌, refl, sym, ap, subst, ◌∙◌}
+use mathlib.Core.List.{List}
+use Prim.Native.Nat.{ℕ}
+use Rattle.model.specs.View.{view}
+use Rattle.table.specs.Answers.{Asked, AskedHere, asked_mnemonic, called, place_answered}
+use Rattle.table.proofs.Accepting.{opened_here, opened_not, opened_now, opened_entries}
 use Rattle.table.proofs.Asking.{mnemonic_asked, mnemonic_table, mnemonic_no_table}
 use Rattle.trial.proofs.Places.{place_refused}
+use Rattle.trial.proofs.tables.start_by.Goals.{After-with_mnemonic}
 use Rattle.trial.proofs.tables.start_by.Goals as goal
-use Rattle.std.specs.Prelude.{Result, Ok, Err}
-use Rattle.table.specs.Answers.{Asked}
+
+-- the parameter of that mnemonic is what is asked of the lent bytes
+asked : (c : After-with_mnemonic) → c.with_mnemonic.result ≡ asked_mnemonic c.args.t.now c.args.mnemonic.now
+asked c =
+    c.with_mnemonic.ensures ∙ ap (λ (x : List ℕ). called (view x) c.args.mnemonic.now) (opened_now c.in-Some.ensures) ∙ mnemonic_table _ _ (opened_here c.in-Some.ensures)
 
 pub with_mnemonic-requires : goal.with_mnemonic-requires
-with_mnemonic-requires c =
-    let h = c.opening-opened.ensures in
-    let e = c.in-Table.is in
-    record { opened_of = h.opened _ e; entries = (accepted_laid _ (opened_accepted h e)).entries }
+with_mnemonic-requires c = record { entries = opened_entries c.in-Some.ensures }
 
 pub start_in-requires : goal.start_in-requires
 start_in-requires c =
-    let a = c.args in
-    let h = c.opening-opened.ensures in
-    let e = c.in-Table.is in
-    record { opened_of = h.opened _ e; asked_here = subst (λ (x : Asked). AskedHere a.t.now x) (sym (c.with_mnemonic.ensures ∙ mnemonic_table _ _ (opened_accepted h e))) (mnemonic_asked a.t.now a.mnemonic.now) }
+    let h = subst (λ (x : List ℕ). AskedHere x (asked_mnemonic c.args.t.now c.args.mnemonic.now)) (sym (opened_now c.in-Some.ensures)) (mnemonic_asked c.args.t.now c.args.mnemonic.now) in
+    record { asked_here = subst (λ (x : Asked). AskedHere c.in-Some.r.declared.table.bytes.now x) (sym (asked c)) h }
 
-pub returns-in-Table : goal.returns-in-Table
-returns-in-Table c =
-    let h = c.opening-opened.ensures in
-    let e = c.in-Table.is in
-    c.start_in.ensures ∙ ap (place_answered c.args.t.now) (c.with_mnemonic.ensures ∙ mnemonic_table _ _ (opened_accepted h e))
+pub returns-in-Some : goal.returns-in-Some
+returns-in-Some c =
+    c.start_in.ensures
+    ∙ ap (λ (x : List ℕ). place_answered x c.with_mnemonic.result) (opened_now c.in-Some.ensures)
+    ∙ ap (place_answered c.args.t.now) (asked (goal.at.returns-in-Some c).After-with_mnemonic)
 
-pub returns-in-NotTable : goal.returns-in-NotTable
-returns-in-NotTable c = place_refused _ _ _ (mnemonic_no_table _ _ (opened_not c.opening-opened.ensures c.in-NotTable.is))
+pub returns-in-None : goal.returns-in-None
+returns-in-None c = place_refused _ _ _ (mnemonic_no_table _ _ (opened_not c.in-None.ensures refl))

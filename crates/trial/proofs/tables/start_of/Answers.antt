@@ -1,25 +1,28 @@
 -- What is asked for is in the table.
-use mathlib.Core.Path.{sym, ap, subst, ◌∙◌}
-use Rattle.table.specs.Answers.{AskedHere, place_answered}
-use Rattle.table.proofs.Accepting.{opened_accepted, opened_not}
+use mathlib.Core.Path.{◌≡◌, refl, sym, ap, subst, ◌∙◌}
+use mathlib.Core.List.{List}
+use Prim.Native.Nat.{ℕ}
+use Rattle.table.specs.Answers.{Asked, AskedHere, asked_number, place_answered}
+use Rattle.table.proofs.Accepting.{opened_here, opened_not, opened_now, opened_parameters}
 use Rattle.table.proofs.Asking.{number_asked, number_table, number_no_table}
 use Rattle.trial.proofs.Places.{place_refused}
+use Rattle.trial.proofs.tables.start_of.Goals.{After-numbered}
 use Rattle.trial.proofs.tables.start_of.Goals as goal
-use Rattle.std.specs.Prelude.{Result, Ok, Err}
-use Rattle.table.specs.Answers.{Asked}
+
+-- the parameter of that number is what is asked of the lent bytes
+asked : (c : After-numbered) → c.numbered.result ≡ asked_number c.args.t.now c.args.parameter
+asked c = c.numbered.ensures ∙ number_table _ _ (opened_here c.in-Some.ensures) _ (opened_parameters c.in-Some.ensures)
 
 pub start_in-requires : goal.start_in-requires
 start_in-requires c =
-    let a = c.args in
-    let h = c.opening-opened.ensures in
-    let e = c.in-Table.is in
-    record { opened_of = h.opened _ e; asked_here = subst (λ (x : Asked). AskedHere a.t.now x) (sym (c.numbered.ensures ∙ number_table _ _ (opened_accepted h e) _ (h.opened _ e).counts.parameters_is)) (number_asked a.t.now a.parameter) }
+    let h = subst (λ (x : List ℕ). AskedHere x (asked_number c.args.t.now c.args.parameter)) (sym (opened_now c.in-Some.ensures)) (number_asked c.args.t.now c.args.parameter) in
+    record { asked_here = subst (λ (x : Asked). AskedHere c.in-Some.r.declared.table.bytes.now x) (sym (asked c)) h }
 
-pub returns-in-Table : goal.returns-in-Table
-returns-in-Table c =
-    let h = c.opening-opened.ensures in
-    let e = c.in-Table.is in
-    c.start_in.ensures ∙ ap (place_answered c.args.t.now) (c.numbered.ensures ∙ number_table _ _ (opened_accepted h e) _ (h.opened _ e).counts.parameters_is)
+pub returns-in-Some : goal.returns-in-Some
+returns-in-Some c =
+    c.start_in.ensures
+    ∙ ap (λ (x : List ℕ). place_answered x c.numbered.result) (opened_now c.in-Some.ensures)
+    ∙ ap (place_answered c.args.t.now) (asked (goal.at.returns-in-Some c).After-numbered)
 
-pub returns-in-NotTable : goal.returns-in-NotTable
-returns-in-NotTable c = place_refused _ _ _ (number_no_table _ _ (opened_not c.opening-opened.ensures c.in-NotTable.is))
+pub returns-in-None : goal.returns-in-None
+returns-in-None c = place_refused _ _ _ (number_no_table _ _ (opened_not c.in-None.ensures refl))
