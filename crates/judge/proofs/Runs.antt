@@ -29,9 +29,7 @@ use Rattle.gather.specs.Ruling.{Ruling, Accepted, Refused, identified, at_end, f
 use Rattle.gather.proofs.AcceptedLawful.{identified_accepted}
 use Rattle.gather.proofs.Stages.{unended_run}
 use Rattle.judge.specs.Counts.{tally_of}
-use Rattle.judge.specs.Walk.{onward, end_book, book_of, verdict_of, may_end}
-use Rattle.judge.specs.declared.walk.Verdict.{Verdict}
-use Rattle.judge.specs.declared.walk.Verdict.TheVariants as verdict
+use Rattle.judge.specs.Walk.{onward, end_book, book_of, Verdict, refused, verdict_of, may_end}
 
 -- the answer of the lines from here on
 unfoldable pub answer : Due → Book → List ℕ → ℕ → Lines → Verdict
@@ -64,17 +62,17 @@ module _ (d : Due) (K : Book) (os : List ℕ) (k : ℕ) (l : List ℕ) (ls : Lin
   unfolding answer run end_book
   answer_passes e = rw e
 
-  pub answer_refused : (q : Refusal) → line_judged true l (tests_of (form_at d K l) K l) ≡ judged.Refused q → answer d K os k (line l ls) ≡ verdict.Refused q (k + 1)
+  pub answer_refused : (q : Refusal) → line_judged true l (tests_of (form_at d K l) K l) ≡ judged.Refused q → answer d K os k (line l ls) ≡ refused q (k + 1)
   unfolding answer run end_book
   answer_refused q e = rw e
 
 -- a raw line that is refused: of one that lacks its end byte, for that
-pub answer_raw : (d : Due) (K : Book) (os : List ℕ) (k : ℕ) (ls : Lines) (q : Refusal) → (ls ≡ none → ⊥) → head_judged ls ≡ judged.Refused q → answer d K os k ls ≡ verdict.Refused q (k + 1)
+pub answer_raw : (d : Due) (K : Book) (os : List ℕ) (k : ℕ) (ls : Lines) (q : Refusal) → (ls ≡ none → ⊥) → head_judged ls ≡ judged.Refused q → answer d K os k ls ≡ refused q (k + 1)
 unfolding head_judged answer first
 answer_raw d K os k none q n e = absurd (n refl)
 answer_raw d K os k (unended l) q n e =
     let z : Unended ≡ q = cc in
-    ap (λ (r : Ruling). verdict_of r (tally_of (end_book d K (unended l)))) (unended_run d K os k l) ∙ ap (λ (r : Refusal). verdict.Refused r (k + 1)) z
+    ap (λ (r : Ruling). verdict_of r (tally_of (end_book d K (unended l)))) (unended_run d K os k l) ∙ ap (λ (r : Refusal). refused r (k + 1)) z
 answer_raw d K os k (line l ls) q n e =
     answer_refused d K os k l ls q
     (line_tests l (form_at d K l) K
@@ -109,7 +107,7 @@ pub lines_none : (s : List ℕ) (at : ℕ) → length s ≤ at → lines_of (dro
 unfolding lines_of
 lines_none s at h = rw (drop_end s at h)
 
-pub answer_due : (d : Due) (K : Book) (os : List ℕ) (k : ℕ) → may_end d ≡ false → answer d K os k none ≡ verdict.Refused Unended (k + 1)
+pub answer_due : (d : Due) (K : Book) (os : List ℕ) (k : ℕ) → may_end d ≡ false → answer d K os k none ≡ refused Unended (k + 1)
 unfolding answer run
 answer_due due.HeaderWord K os k e = refl
 answer_due due.HeaderLine K os k e = refl
@@ -154,7 +152,7 @@ answer_end due.Nothing K os k e = refl
 abbrev pub answer_of : List ℕ → Verdict
 answer_of s = verdict_of (judge_of s) (tally_of (book_of s))
 
-pub answer_long : (s : List ℕ) → longest_sheet < length s → verdict.Refused SheetTooLong 0 ≡ answer_of s
+pub answer_long : (s : List ℕ) → longest_sheet < length s → refused SheetTooLong 0 ≡ answer_of s
 unfolding judge_of
 answer_long s h = rw (lt-ltb longest_sheet (length s) h)
 

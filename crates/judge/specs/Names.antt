@@ -1,5 +1,6 @@
 -- Not part of the meaning: texts of a sheet by their places, as the code keeps those of earlier parameters.
-use Rattle.std.specs.Prelude.{ℕ, suc, ◌+◌, ◌-◌, List, [], ◌∷◌, Bool, true, cond, not, ◌&&◌, ◌||◌, ltb, length}
+use Rattle.std.specs.Prelude.{ℕ, ◌+◌, ◌-◌, List, [], Bool, cond, not, ◌&&◌, ◌||◌, ltb, length}
+use Rattle.std.specs.List.{list_all}
 use Rattle.lay.specs.Bytes.{same, part}
 use Rattle.text.specs.Blanks.{is_empty}
 use Rattle.text.specs.Fields.{field_of, field_at}
@@ -9,53 +10,43 @@ use Rattle.text.specs.declared.refusal.Judged.{Judged}
 use Rattle.text.specs.declared.refusal.Judged.TheVariants.{Passes}
 use Rattle.lineforms.specs.declared.due.Form.{Form}
 use Rattle.lineforms.specs.declared.due.Form.TheVariants.{Stray, Superframe, HeaderWord, HeaderLine, RecordWord, RecordLine, NoneWord, ParameterWord, NameLine, OpeningComponent, ComponentLine, TimeLine, SamplesEnd, SignedLine, RangeLine, SourceLine, LabelLine, SourceEnd, ParameterEnd}
-use Rattle.judge.specs.Columns.{first_kept}
 use Rattle.judge.specs.declared.names.Place.{Place}
 use Rattle.judge.specs.declared.names.Places.{Places}
+use Rattle.judge.specs.declared.rows.Kept.{Kept}
 
-unfoldable pub text_at : List ℕ → ℕ → ℕ → List ℕ
-text_at s a e = cond (ltb e a || ltb (length s) e) [] (part s a (e - a))
+unfoldable pub text_at : List ℕ → Place → List ℕ
+text_at s p = cond (ltb p.end p.start || ltb (length s) p.end) [] (part s p.start (p.end - p.start))
 
-unfoldable pub texts_at : List ℕ → List ℕ → List ℕ → List (List ℕ)
-texts_at s [] ends = []
-texts_at s (a ∷ starts) [] = []
-texts_at s (a ∷ starts) (e ∷ ends) = text_at s a e ∷ texts_at s starts ends
+-- a name, and a mnemonic and an identification where they are not empty, are none of those at these places
+unfoldable pub apart_in : List ℕ → List ℕ → List ℕ → List ℕ → Places → Bool
+apart_in s n m i h =
+    not (same (text_at s h.name) n)
+    && ((is_empty m || not (same (text_at s h.mnemonic) m)) && (is_empty i || not (same (text_at s h.identification) i)))
 
--- the first p of those whose starts stand in column k, and their ends in the column behind
-abbrev pub texts_in : List ℕ → ℕ → ℕ → List ℕ → List (List ℕ)
-texts_in s k p ts = texts_at s (first_kept k p ts) (first_kept (suc k) p ts)
+-- a 7-field line's are none of these parameters'
+unfoldable pub unlike_names : List ℕ → List Kept → List ℕ → Bool
+unlike_names s ks l = list_all (λ k. apart_in s (field_of 0 l) (field_of 1 l) (field_of 2 l) k.places) ks
 
--- none of the texts is this one
-unfoldable pub unlike_all : List (List ℕ) → List ℕ → Bool
-unlike_all [] t = true
-unlike_all (x ∷ xs) t = not (same x t) && unlike_all xs t
-
--- a 7-field line's name, and its mnemonic and identification where they are not empty, are none of these
-unfoldable pub unlike_names : List (List ℕ) → List (List ℕ) → List (List ℕ) → List ℕ → Bool
-unlike_names ns ms is l =
-    unlike_all ns (field_of 0 l)
-    && ((is_empty (field_of 1 l) || unlike_all ms (field_of 1 l)) && (is_empty (field_of 2 l) || unlike_all is (field_of 2 l)))
-
-abbrev pub names_in : Form → List (List ℕ) → List (List ℕ) → List (List ℕ) → List ℕ → Judged
-names_in Stray ns ms is l = Passes
-names_in Superframe ns ms is l = Passes
-names_in HeaderWord ns ms is l = Passes
-names_in HeaderLine ns ms is l = Passes
-names_in RecordWord ns ms is l = Passes
-names_in RecordLine ns ms is l = Passes
-names_in NoneWord ns ms is l = Passes
-names_in ParameterWord ns ms is l = Passes
-names_in NameLine ns ms is l = when (not (unlike_names ns ms is l)) Repeated
-names_in OpeningComponent ns ms is l = Passes
-names_in ComponentLine ns ms is l = Passes
-names_in TimeLine ns ms is l = Passes
-names_in SamplesEnd ns ms is l = Passes
-names_in SignedLine ns ms is l = Passes
-names_in RangeLine ns ms is l = Passes
-names_in SourceLine ns ms is l = Passes
-names_in LabelLine ns ms is l = Passes
-names_in SourceEnd ns ms is l = Passes
-names_in ParameterEnd ns ms is l = Passes
+abbrev pub names_in : Form → List ℕ → List Kept → List ℕ → Judged
+names_in Stray s ks l = Passes
+names_in Superframe s ks l = Passes
+names_in HeaderWord s ks l = Passes
+names_in HeaderLine s ks l = Passes
+names_in RecordWord s ks l = Passes
+names_in RecordLine s ks l = Passes
+names_in NoneWord s ks l = Passes
+names_in ParameterWord s ks l = Passes
+names_in NameLine s ks l = when (not (unlike_names s ks l)) Repeated
+names_in OpeningComponent s ks l = Passes
+names_in ComponentLine s ks l = Passes
+names_in TimeLine s ks l = Passes
+names_in SamplesEnd s ks l = Passes
+names_in SignedLine s ks l = Passes
+names_in RangeLine s ks l = Passes
+names_in SourceLine s ks l = Passes
+names_in LabelLine s ks l = Passes
+names_in SourceEnd s ks l = Passes
+names_in ParameterEnd s ks l = Passes
 
 -- ---- places of the open parameter's texts
 
