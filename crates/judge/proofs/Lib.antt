@@ -1,7 +1,6 @@
 pub mod Lists
 pub mod Growing
 pub mod TestLaws
-pub mod SamplingLaws
 pub mod FittingLaws
 pub mod Standing
 pub mod Apart

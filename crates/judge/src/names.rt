@@ -1,10 +1,9 @@
 // 15: names of earlier parameters, kept as places in the sheet.
-ghost use Rattle.std.specs.Prelude.{◌≡◌, not, ◌*◌, ◌≤◌, length};
+ghost use Rattle.std.specs.Prelude.{◌≡◌, ◌*◌, ◌≤◌, length};
 ghost use Rattle.judge.specs.Names.{text_at, apart_in, unlike_names, names_in, place_in, no_places, places_after};
-ghost use Rattle.text.specs.Refusals.{when};
-ghost use Rattle.text.specs.declared.refusal.Refusal.TheVariants.{Repeated};
 
 use crate::rows::Kept;
+use crate::tests::refused_if;
 use lay::same_text;
 use lineforms::due::Form;
 use text::field::{field_at, field_of};
@@ -50,21 +49,12 @@ fn unlike_names(sheet: &[u8], line: &[u8], kept: &[Kept]) -> bool
     kept.iter().all(|k| apart(sheet, texts, k.places))
 }
 
-fn repeated_unless(apart: bool) -> Judged
-    ensures { result ≡ when (not apart) Repeated }
-{
-    if apart {
-        return Judged::Passes;
-    }
-    Judged::Refused(Refusal::Repeated)
-}
-
 // 15 of a line, by what it turned out to be.
 pub fn names_judged(form: Form, sheet: &[u8], line: &[u8], kept: &[Kept]) -> Judged
     ensures { result ≡ names_in form sheet.now kept.now line.now }
 {
     match form {
-        Form::NameLine => repeated_unless(unlike_names(sheet, line, kept)),
+        Form::NameLine => refused_if(!unlike_names(sheet, line, kept), Refusal::Repeated),
         _ => Judged::Passes,
     }
 }

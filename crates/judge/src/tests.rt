@@ -2,7 +2,7 @@
 ghost use Rattle.std.specs.Prelude.{◌≡◌};
 ghost use Rattle.judge.specs.LineTests.{room_for_parameter_in, room_for_sample_in, room_for_component_in, form_tests, Fitting};
 ghost use Rattle.judge.specs.Sampling.{sample_in};
-ghost use Rattle.text.specs.Refusals.{or_else};
+ghost use Rattle.text.specs.Refusals.{when, or_else};
 
 use crate::sampling::{Sampling, sample_judged};
 use crate::tally::Tally;
@@ -14,57 +14,51 @@ use lineforms::fields::{
 use model::limits::{COMPONENTS, COMPONENTS_EACH, PARAMETERS, SAMPLES, SAMPLES_EACH};
 use text::refusal::{Judged, Refusal, or_else};
 
+pub fn refused_if(wrong: bool, refusal: Refusal) -> Judged
+    ensures { result ≡ when wrong refusal }
+{
+    if wrong {
+        return Judged::Refused(refusal);
+    }
+    Judged::Passes
+}
+
 // 12: one parameter more.
+#[tactic(auto, unfolding(crate::specs::LineTests::room_for_parameter_in))]
 fn room_for_parameter(x: Tally) -> Judged
     ensures { result ≡ room_for_parameter_in x }
 {
-    if PARAMETERS <= x.parameters {
-        return Judged::Refused(Refusal::TooMany);
-    }
-    Judged::Passes
+    refused_if(PARAMETERS <= x.parameters, Refusal::TooMany)
 }
 
 // 12: one sample more, which its first component opens.
+#[tactic(auto, unfolding(crate::specs::LineTests::room_for_sample_in))]
 fn room_for_sample(x: Tally) -> Judged
     ensures { result ≡ room_for_sample_in x }
 {
-    if SAMPLES_EACH <= x.own {
-        return Judged::Refused(Refusal::TooMany);
-    }
-    if SAMPLES <= x.samples {
-        return Judged::Refused(Refusal::TooMany);
-    }
-    if COMPONENTS <= x.components {
-        return Judged::Refused(Refusal::TooMany);
-    }
-    Judged::Passes
+    let full = SAMPLES_EACH <= x.own || SAMPLES <= x.samples || COMPONENTS <= x.components;
+    refused_if(full, Refusal::TooMany)
 }
 
 // 12: one component more.
+#[tactic(auto, unfolding(crate::specs::LineTests::room_for_component_in))]
 fn room_for_component(x: Tally) -> Judged
     ensures { result ≡ room_for_component_in x }
 {
-    if COMPONENTS_EACH <= x.parts {
-        return Judged::Refused(Refusal::TooMany);
-    }
-    if COMPONENTS <= x.components {
-        return Judged::Refused(Refusal::TooMany);
-    }
-    Judged::Passes
+    let full = COMPONENTS_EACH <= x.parts || COMPONENTS <= x.components;
+    refused_if(full, Refusal::TooMany)
 }
 
 // 5 and 10, 12, then the fields left to right.
+#[tactic(auto, unfolding(crate::specs::LineTests::form_tests, text::specs::Refusals::first))]
 fn form_judged(form: Form, line: &[u8], x: Tally, words: &[u64], bits: &[u64]) -> Judged
     ensures { result ≡ form_tests form x words.now bits.now line.now }
 {
     match form {
         Form::Stray => Judged::Refused(Refusal::NotDue),
         Form::Superframe => Judged::Refused(Refusal::NotCarried),
-        Form::HeaderWord => Judged::Passes,
         Form::HeaderLine => header_fields(line),
-        Form::RecordWord => Judged::Passes,
         Form::RecordLine => record_fields(line),
-        Form::NoneWord => Judged::Passes,
         Form::ParameterWord => room_for_parameter(x),
         Form::NameLine => name_fields(line),
         Form::OpeningComponent => or_else(
@@ -76,13 +70,16 @@ fn form_judged(form: Form, line: &[u8], x: Tally, words: &[u64], bits: &[u64]) -
             component_fields(line, x.declared as u64, words, bits),
         ),
         Form::TimeLine => time_fields(line),
-        Form::SamplesEnd => Judged::Passes,
         Form::SignedLine => signed_fields(line),
         Form::RangeLine => range_fields(line, x.identifier),
         Form::SourceLine => source_fields(line),
         Form::LabelLine => label_fields(line),
-        Form::SourceEnd => Judged::Passes,
-        Form::ParameterEnd => Judged::Passes,
+        Form::HeaderWord
+        | Form::RecordWord
+        | Form::NoneWord
+        | Form::SamplesEnd
+        | Form::SourceEnd
+        | Form::ParameterEnd => Judged::Passes,
     }
 }
 
