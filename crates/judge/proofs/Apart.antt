@@ -1,6 +1,6 @@
 -- 15 by the places of texts, and the places of the open parameter's texts. Assumes nothing.
 use mathlib.Core.Path.{◌≡◌, refl, sym, ap, ◌∙◌}
-use mathlib.Core.Bool.{Bool, not, ◌&&◌, ◌||◌}
+use mathlib.Core.Bool.{Bool, true, false, not, ◌&&◌, ◌||◌}
 use mathlib.Core.List.{List, [], ◌∷◌}
 use Prim.Native.Nat.{ℕ, ◌+◌, ◌-◌, ◌<◌, ◌≤◌}
 use native.Mathlib.Omega.{arith}
@@ -8,7 +8,7 @@ use borrow.Author.Tests.{le-ltb}
 use lib.ListN.{length, get_or, take, drop, length-take}
 use lib.Seq.{drop-drop, take-take}
 use Rattle.std.specs.List.{list_all}
-use Rattle.lay.specs.Below.{every, all}
+use Rattle.lay.specs.Below.{every}
 use Rattle.lay.specs.Bytes.{same, part}
 use Rattle.text.specs.Blanks.{is_empty}
 use Rattle.text.specs.Fields.{field_of, field_at}
@@ -23,10 +23,10 @@ use Rattle.model.specs.Identifiers.{named_apart}
 use Rattle.gather.specs.Book.{Book, grow, named_of}
 use Rattle.gather.specs.Tests.{apart_from, names_test}
 use Rattle.judge.specs.Rows.{no_kept}
-use Rattle.judge.specs.Names.{text_at, apart_in, unlike_names, names_in, no_place, place_in, places_after}
+use Rattle.judge.specs.Names.{text_at, differs_in, unlike_names, names_in, no_place, place_in, places_after}
 use Rattle.judge.specs.declared.names.Places.{Places}
 use Rattle.judge.specs.declared.rows.Kept.{Kept}
-use Rattle.judge.proofs.Lists.{and_true, all_items}
+use Rattle.judge.proofs.Lists.{same_all}
 
 -- ---- places
 
@@ -79,15 +79,39 @@ here_step ParameterEnd l K s a n h e m w = record { name = no_text s; mnemonic =
 
 -- ---- names, mnemonics and identifications apart
 
-apart_at : (s l : List ℕ) (h : Places) (p : Parameter) → Here s h p → apart_in s (field_of 0 l) (field_of 1 l) (field_of 2 l) h ≡ named_apart p (named_of l)
-unfolding apart_in named_apart every
-apart_at s l h p w =
-    rw (w.name, w.mnemonic, w.identification, and_true (is_empty (field_of 2 l) || not (same p.identification (field_of 2 l))))
+or_true : (e : Bool) → (e || true) ≡ true
+or_true true = refl
+or_true false = refl
 
-apart_each : (ps : List Parameter) (q : Parameter) → apart_from ps q ≡ list_all (λ p. named_apart p q) ps
-unfolding apart_from
-apart_each [] q = refl
-apart_each (p ∷ ps) q = ap (λ (t : Bool). named_apart p q && t) (apart_each ps q)
+and_false : (a : Bool) → (a && false) ≡ false
+and_false true = refl
+and_false false = refl
+
+-- three tests of each against three tests of all
+mixed : (a e b f c A B C : Bool) → ((a && ((e || b) && ((f || c) && true))) && (A && ((e || B) && (f || C)))) ≡ ((a && A) && ((e || (b && B)) && (f || (c && C))))
+mixed false e b f c A B C = refl
+mixed true true b true c A B C = refl
+mixed true true b false true A B C = refl
+mixed true true b false false A B C = sym (and_false A)
+mixed true false true true c A B C = refl
+mixed true false true false true A B C = refl
+mixed true false true false false true B C = sym (and_false B)
+mixed true false true false false false B C = refl
+mixed true false false f c A B C = sym (and_false A)
+
+apart_each : (ps : List Parameter) (l : List ℕ)
+    → apart_from ps (named_of l)
+    ≡ (list_all (λ p. not (same p.name (field_of 0 l))) ps
+    && ((is_empty (field_of 1 l) || list_all (λ p. not (same p.mnemonic (field_of 1 l))) ps)
+    && (is_empty (field_of 2 l) || list_all (λ p. not (same p.identification (field_of 2 l))) ps)))
+unfolding apart_from named_apart every
+apart_each [] l = sym (rw (or_true (is_empty (field_of 1 l)), or_true (is_empty (field_of 2 l))))
+apart_each (p ∷ ps) l =
+    ap (λ (t : Bool). named_apart p (named_of l) && t) (apart_each ps l)
+    ∙ mixed (not (same p.name (field_of 0 l))) (is_empty (field_of 1 l)) (not (same p.mnemonic (field_of 1 l))) (is_empty (field_of 2 l)) (not (same p.identification (field_of 2 l)))
+    (list_all (λ (q : Parameter). not (same q.name (field_of 0 l))) ps)
+    (list_all (λ (q : Parameter). not (same q.mnemonic (field_of 1 l))) ps)
+    (list_all (λ (q : Parameter). not (same q.identification (field_of 2 l))) ps)
 
 -- rows that hold where the texts of these parameters stand
 pub record Placed (s : List ℕ) (ps : List Parameter) (ks : List Kept) : Type 0 where
@@ -97,11 +121,10 @@ pub record Placed (s : List ℕ) (ps : List Parameter) (ks : List Kept) : Type 0
 apart_is : (s : List ℕ) (ps : List Parameter) (ks : List Kept) (l : List ℕ) → Placed s ps ks → unlike_names s ks l ≡ apart_from ps (named_of l)
 unfolding unlike_names
 apart_is s ps ks l h =
-    let f = λ (k : ℕ). named_apart (get_or ps k no_parameter) (named_of l) in
-    all_items (λ (r : Kept). apart_in s (field_of 0 l) (field_of 1 l) (field_of 2 l) r.places) ks no_kept f
-    (λ k m. apart_at s l (get_or ks k no_kept).places (get_or ps k no_parameter) (h.each k (omega (arith, h.long))))
-    ∙ (ap (λ (n : ℕ). all n f) h.long
-    ∙ (sym (all_items (λ (p : Parameter). named_apart p (named_of l)) ps no_parameter f (λ k m. refl)) ∙ sym (apart_each ps (named_of l))))
+    let a = same_all (λ (r : Kept). differs_in s (field_of 0 l) r.places.name) (λ (p : Parameter). not (same p.name (field_of 0 l))) ks ps no_kept no_parameter h.long (λ k m. rw ((h.each k m).name)) in
+    let b = same_all (λ (r : Kept). differs_in s (field_of 1 l) r.places.mnemonic) (λ (p : Parameter). not (same p.mnemonic (field_of 1 l))) ks ps no_kept no_parameter h.long (λ k m. rw ((h.each k m).mnemonic)) in
+    let c = same_all (λ (r : Kept). differs_in s (field_of 2 l) r.places.identification) (λ (p : Parameter). not (same p.identification (field_of 2 l))) ks ps no_kept no_parameter h.long (λ k m. rw ((h.each k m).identification)) in
+    rw (a, b, c) (sym (apart_each ps l))
 
 pub names_is : (f : Form) (s l : List ℕ) (K : Book) (ks : List Kept) → Placed s K.parameters ks → names_in f s ks l ≡ names_test f K l
 names_is Stray s l K ks h = refl

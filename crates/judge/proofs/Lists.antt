@@ -41,6 +41,13 @@ module _ {A : Type 0} (p : A → Bool) (xs : List A) (d : A) (f : ℕ → Bool) 
   pub any_items : ((k : ℕ) → k < length xs → p (get_or xs k d) ≡ f k) → list_any p xs ≡ any (length xs) f
   any_items e = ap (list_any p) (sym (take-length xs)) ∙ any_first (length xs) (omega arith) e
 
+-- two tests that agree at each index of two lists of one length
+pub same_all : {A B : Type 0} (p : A → Bool) (q : B → Bool) (xs : List A) (ys : List B) (d : A) (e : B) → length xs ≡ length ys
+    → ((k : ℕ) → k < length ys → p (get_or xs k d) ≡ q (get_or ys k e)) → list_all p xs ≡ list_all q ys
+same_all p q xs ys d e h g =
+    all_items p xs d (λ k. q (get_or ys k e)) (λ k l. g k (omega arith))
+    ∙ (ap (λ (n : ℕ). all n (λ k. q (get_or ys k e))) h ∙ sym (all_items q ys e (λ k. q (get_or ys k e)) (λ k l. refl)))
+
 pub all_range : (n : ℕ) (f : ℕ → Bool) → list_all f (range_with_len 0 n) ≡ all n f
 all_range n f =
     all_items f (range_with_len 0 n) 0 f (λ k h. ap f (omega (arith, get_or-range_with_len 0 n k 0 (omega (arith, length-range_with_len 0 n)))))

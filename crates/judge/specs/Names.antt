@@ -17,15 +17,25 @@ use Rattle.judge.specs.declared.rows.Kept.{Kept}
 unfoldable pub text_at : List ℕ → Place → List ℕ
 text_at s p = cond (ltb p.end p.start || ltb (length s) p.end) [] (part s p.start (p.end - p.start))
 
--- a name, and a mnemonic and an identification where they are not empty, are none of those at these places
-unfoldable pub apart_in : List ℕ → List ℕ → List ℕ → List ℕ → Places → Bool
-apart_in s n m i h =
-    not (same (text_at s h.name) n)
-    && ((is_empty m || not (same (text_at s h.mnemonic) m)) && (is_empty i || not (same (text_at s h.identification) i)))
+-- another text than t stands at p
+abbrev pub differs_in : List ℕ → List ℕ → Place → Bool
+differs_in s t p = not (same (text_at s p) t)
 
--- a 7-field line's are none of these parameters'
+-- no parameter has this name, mnemonic or identification
+abbrev pub new_name_in : List ℕ → List Kept → List ℕ → Bool
+new_name_in s ks t = list_all (λ k. differs_in s t k.places.name) ks
+
+abbrev pub new_mnemonic_in : List ℕ → List Kept → List ℕ → Bool
+new_mnemonic_in s ks t = list_all (λ k. differs_in s t k.places.mnemonic) ks
+
+abbrev pub new_identification_in : List ℕ → List Kept → List ℕ → Bool
+new_identification_in s ks t = list_all (λ k. differs_in s t k.places.identification) ks
+
+-- a 7-field line's name, and its mnemonic and identification where they are not empty, are none of these parameters'
 unfoldable pub unlike_names : List ℕ → List Kept → List ℕ → Bool
-unlike_names s ks l = list_all (λ k. apart_in s (field_of 0 l) (field_of 1 l) (field_of 2 l) k.places) ks
+unlike_names s ks l =
+    new_name_in s ks (field_of 0 l)
+    && ((is_empty (field_of 1 l) || new_mnemonic_in s ks (field_of 1 l)) && (is_empty (field_of 2 l) || new_identification_in s ks (field_of 2 l)))
 
 abbrev pub names_in : Form → List ℕ → List Kept → List ℕ → Judged
 names_in Stray s ks l = Passes

@@ -1,6 +1,6 @@
 // 15: names of earlier parameters, kept as places in the sheet.
 ghost use Rattle.std.specs.Prelude.{◌≡◌, ◌*◌, ◌≤◌, length};
-ghost use Rattle.judge.specs.Names.{text_at, apart_in, unlike_names, names_in, place_in, no_places, places_after};
+ghost use Rattle.judge.specs.Names.{text_at, differs_in, new_name_in, new_mnemonic_in, new_identification_in, unlike_names, names_in, place_in, no_places, places_after};
 
 use crate::rows::Kept;
 use crate::tests::refused_if;
@@ -16,37 +16,43 @@ fn text_at(sheet: &[u8], place: Place) -> &[u8]
     sheet.get(place.start..place.end).unwrap_or(&[])
 }
 
-// A 7-field line's texts.
-#[derive(Clone, Copy)]
-struct Names<'l> {
-    name: &'l [u8],
-    mnemonic: &'l [u8],
-    identification: &'l [u8],
-}
-
-// Whether none of the texts is the parameter's: an empty mnemonic or identification is like no other.
-#[tactic(auto, unfolding(crate::specs::Names::apart_in))]
-fn apart(sheet: &[u8], texts: Names, earlier: Places) -> bool
-    ensures { result ≡ apart_in sheet.now texts.entry.name.now texts.entry.mnemonic.now texts.entry.identification.now earlier }
+// Whether another text stands at a place.
+fn differs(sheet: &[u8], place: Place, text: &[u8]) -> bool
+    ensures { result ≡ differs_in sheet.now text.now place }
 {
-    !same_text(text_at(sheet, earlier.name), texts.name)
-        && (texts.mnemonic.is_empty()
-            || !same_text(text_at(sheet, earlier.mnemonic), texts.mnemonic))
-        && (texts.identification.is_empty()
-            || !same_text(text_at(sheet, earlier.identification), texts.identification))
+    !same_text(text_at(sheet, place), text)
 }
 
-// Whether a 7-field line's texts are none of those of these parameters.
+// Whether no parameter has this name; this mnemonic; this identification. (Three functions: a field cannot be an argument.)
+fn is_new_name(sheet: &[u8], kept: &[Kept], name: &[u8]) -> bool
+    ensures { result ≡ new_name_in sheet.now kept.now name.now }
+{
+    kept.iter().all(|k| differs(sheet, k.places.name, name))
+}
+
+fn is_new_mnemonic(sheet: &[u8], kept: &[Kept], mnemonic: &[u8]) -> bool
+    ensures { result ≡ new_mnemonic_in sheet.now kept.now mnemonic.now }
+{
+    kept.iter()
+        .all(|k| differs(sheet, k.places.mnemonic, mnemonic))
+}
+
+fn is_new_identification(sheet: &[u8], kept: &[Kept], identification: &[u8]) -> bool
+    ensures { result ≡ new_identification_in sheet.now kept.now identification.now }
+{
+    kept.iter().all(|k| differs(sheet, k.places.identification, identification))
+}
+
+// Whether a 7-field line's texts are none of those of these parameters. An empty mnemonic or identification is like no other.
 #[tactic(auto, unfolding(crate::specs::Names::unlike_names))]
 fn unlike_names(sheet: &[u8], line: &[u8], kept: &[Kept]) -> bool
     ensures { result ≡ unlike_names sheet.now kept.now line.now }
 {
-    let texts = Names {
-        name: field_of(line, 0),
-        mnemonic: field_of(line, 1),
-        identification: field_of(line, 2),
-    };
-    kept.iter().all(|k| apart(sheet, texts, k.places))
+    let mnemonic = field_of(line, 1);
+    let identification = field_of(line, 2);
+    is_new_name(sheet, kept, field_of(line, 0))
+        && (mnemonic.is_empty() || is_new_mnemonic(sheet, kept, mnemonic))
+        && (identification.is_empty() || is_new_identification(sheet, kept, identification))
 }
 
 // 15 of a line, by what it turned out to be.
