@@ -8,11 +8,11 @@ use native.Mathlib.Omega.{arith}
 use borrow.Author.Tests.{eqb-true, leb-true}
 use lib.Dec.{eqb, leb}
 use lib.ListN.{length, get_or, take}
+use Rattle.std.specs.Prelude.{Ok}
 use Rattle.lay.proofs.Tests.{and_0, and_1, or_either, differ}
 use Rattle.text.specs.Blanks.{space, tab, is_blank, before, trim_start, trim_end, trim}
 use Rattle.text.specs.Parts.{index_of, up_to, past}
 use Rattle.text.specs.Fields.{comma, piece_of, field_of}
-use Rattle.text.specs.declared.refusal.Judged.TheVariants.{Passes}
 use Rattle.text.proofs.Trims.{start_drop, end_take}
 use Rattle.text.proofs.Places.{past_of, piece_past}
 use Rattle.spell.specs.Texts.{text_judged}
@@ -117,7 +117,7 @@ clean_byte x h t c =
     (or_either (eqb x 9) (leb 32 x && leb x 126) h)
 
 pub field_text : (k : ℕ) (l : List ℕ) (mandatory : Bool) → all_clean l ≡ true
-    → text_judged sheet_limits.text mandatory (field_of k l) ≡ Passes → TextLaw sheet_limits (field_of k l)
+    → text_judged sheet_limits.text mandatory (field_of k l) ≡ Ok tt → TextLaw sheet_limits (field_of k l)
 field_text k l mandatory c e =
     let r = ((text_exactly sheet_limits.text mandatory (field_of k l)).0 e).0 in
     record {
@@ -128,5 +128,5 @@ field_text k l mandatory c e =
       ends = field_last k l;
     }
 
-pub field_some : (k : ℕ) (l : List ℕ) → text_judged sheet_limits.text true (field_of k l) ≡ Passes → 1 ≤ length (field_of k l)
+pub field_some : (k : ℕ) (l : List ℕ) → text_judged sheet_limits.text true (field_of k l) ≡ Ok tt → 1 ≤ length (field_of k l)
 field_some k l e = ((text_exactly sheet_limits.text true (field_of k l)).0 e).1 refl
