@@ -54,8 +54,7 @@ none_bad c e = all_made (parameters c) (identifies c) (λ k l. go k l (identifie
     go k l false q =
         absurd
         (let f = find_least (parameters c) (λ i. not (identifies c i)) k l (holds_not (identifies c k) q) in
-        let z : ⊥ = omega (arith, ltb-false (find (parameters c) (λ i. not (identifies c i))) (parameters c) e) in
-        z)
+        omega (arith, ltb-false (find (parameters c) (λ i. not (identifies c i))) (parameters c) e))
 
 pub record Identified (c d : Content) : Type 0 where
   pub same : d ≡ c

@@ -49,7 +49,7 @@ module _ (f : List ℕ) where
       go true q = subst (MarginLaw sheet_limits) (sym (margin_unknown blank_margin refl)) refl
       go false q =
           let a = (integer_amount 6 0 sheet_limits.margin (integer_same 6 0 sheet_limits.margin f ∙ q)).1 in
-          subst (MarginLaw sheet_limits) (sym (margin_known (amount_of (integer_of 6 0 sheet_limits.margin f)) (λ z. let w : ⊥ = omega (arith, a, z) in w))) a
+          subst (MarginLaw sheet_limits) (sym (margin_known (amount_of (integer_of 6 0 sheet_limits.margin f)) (λ z. omega (arith, a, z)))) a
 
   -- a number that counts from 1 up to those declared
   pub declared_amount : (count : ℕ) → declared_judged count f ≡ Ok tt → (1 ≤ amount_of (integer_of 6 0 most_of_six f)) × (amount_of (integer_of 6 0 most_of_six f) ≤ count)

@@ -64,7 +64,7 @@ field_comma k l = trim_each (λ x. x ≡ comma → ⊥) (piece_of k l) (rw (piec
 
 start_first : (l : List ℕ) → get_or (trim_start l) 0 0 ≡ space → ⊥
 unfolding trim_start
-start_first [] e = let z : ⊥ = omega arith in z
+start_first [] e = omega arith
 start_first (b ∷ l) e = go (is_blank b) refl (λ q. start_first l q) e
   where
     go : (t : Bool) → is_blank b ≡ t → (get_or (trim_start l) 0 0 ≡ space → ⊥) → get_or (cond t (trim_start l) (b ∷ l)) 0 0 ≡ space → ⊥
@@ -72,17 +72,17 @@ start_first (b ∷ l) e = go (is_blank b) refl (λ q. start_first l q) e
     go false h ih q = differ h (rw q refl)
 
 take_first : (n : ℕ) (l : List ℕ) → (get_or l 0 0 ≡ space → ⊥) → get_or (take n l) 0 0 ≡ space → ⊥
-take_first zero l h e = let z : ⊥ = omega arith in z
-take_first (suc n) [] h e = let z : ⊥ = omega arith in z
+take_first zero l h e = omega arith
+take_first (suc n) [] h e = omega arith
 take_first (suc n) (x ∷ l) h e = h e
 
 end_last : (l : List ℕ) → get_or (trim_end l) (length (trim_end l) - 1) 0 ≡ space → ⊥
 unfolding trim_end
-end_last [] e = let z : ⊥ = omega arith in z
+end_last [] e = omega arith
 end_last (b ∷ l) e = go (trim_end l) (λ q. end_last l q) e
   where
     one : (t : Bool) → is_blank b ≡ t → get_or (cond t [] (b ∷ [])) (length (cond t [] (b ∷ [])) - 1) 0 ≡ space → ⊥
-    one true h q = let z : ⊥ = omega arith in z
+    one true h q = omega arith
     one false h q = differ h (rw q refl)
 
     go : (m : List ℕ) → (get_or m (length m - 1) 0 ≡ space → ⊥) → get_or (before b m) (length (before b m) - 1) 0 ≡ space → ⊥

@@ -1,5 +1,4 @@
 -- Lines with their end bytes are the lines that a sheet is cut into. Assumes nothing.
-use native.Mathlib.Omega.{arith}
 use mathlib.Core.Path.{◌≡◌, refl, ap}
 use mathlib.Core.Bool.{Bool, true, false, cond}
 use mathlib.Core.List.{List, [], ◌∷◌, ◌++◌}
@@ -26,10 +25,10 @@ lines_none [] h = refl
 lines_none (b ∷ x) h = absurd (go (eqb b end_byte) (lines_of x) h)
   where
     go : (t : Bool) (ls : Lines) → cond t (line [] ls) (push b ls) ≡ none → ⊥
-    go true ls e = let z : ◌≡◌ {A = ℕ} 0 1 = cc in omega arith
-    go false none e = let z : ◌≡◌ {A = ℕ} 0 1 = cc in omega arith
-    go false (unended l) e = let z : ◌≡◌ {A = ℕ} 0 1 = cc in omega arith
-    go false (line l ls) e = let z : ◌≡◌ {A = ℕ} 0 1 = cc in omega arith
+    go true ls e = cc
+    go false none e = cc
+    go false (unended l) e = cc
+    go false (line l ls) e = cc
 
 -- a first line, and the bytes past its end byte
 pub record Cut (x l : List ℕ) (ls : Lines) : Type 0 where

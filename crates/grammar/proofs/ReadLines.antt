@@ -118,7 +118,7 @@ one_spread : (ps : List Subframe) → ps ≡ spread (length ps) ps
 unfolding spread
 one_spread [] = refl
 one_spread (p ∷ []) = refl
-one_spread (p ∷ q ∷ ps) = rw (ne_eqb (length (p ∷ q ∷ ps)) 1 (λ e. let z : ⊥ = omega arith in z))
+one_spread (p ∷ q ∷ ps) = rw (ne_eqb (length (p ∷ q ∷ ps)) 1 (λ e. omega arith))
 
 pub declare_spread : (pairs subs : List Subframe) → 1 ≤ length subs → Declare pairs subs → Declares pairs subs
 unfolding spread

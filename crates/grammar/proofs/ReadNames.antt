@@ -131,8 +131,8 @@ module _ (K : Book) (l : List ℕ) (c : Content) (items : List Item) (ls : List 
       }
     where
       between : (length (K.pairs ++ (p ∷ pairs)) ≡ 1) ⊎ (length (K.pairs ++ (p ∷ pairs)) ≡ K.declared) → length K.pairs ≡ K.declared → ⊥
-      between (inl e) q = let z : ⊥ = omega (arith, length-append K.pairs (p ∷ pairs)) in z
-      between (inr e) q = let z : ⊥ = omega (arith, length-append K.pairs (p ∷ pairs)) in z
+      between (inl e) q = omega (arith, length-append K.pairs (p ∷ pairs))
+      between (inr e) q = omega (arith, length-append K.pairs (p ∷ pairs))
 
   pub reads_opening : Begun due.Opening K → RecordsLeft K c (items ∷ ls) → Step due.Opening K l c ls
   reads_opening b x = go x.pairs x.told x.lines x.made

@@ -61,7 +61,7 @@ module _ (f : List ℕ) where
   text_judged_lem : (most : ℕ) (mandatory : Bool) → Text f → length f ≤ most → (mandatory ≡ true → 1 ≤ length f) → text_judged most mandatory f ≡ Ok tt
   text_judged_lem most mandatory r m s =
       (text_exactly most mandatory f).1
-      (record { short = m; plain = λ i l e. let z : ⊥ = omega (arith, (r.each i l).least) in z }, s)
+      (record { short = m; plain = λ i l e. omega (arith, (r.each i l).least) }, s)
 
   -- any text
   pub text_spelled : Tidy f → text_judged longest_text false f ≡ Ok tt → Spelled text f
@@ -103,8 +103,8 @@ module _ (f : List ℕ) where
           record {
             short = omega arith;
             each = λ i l. absurd (omega arith);
-            begins = λ e. let z : ⊥ = omega arith in z;
-            ends = λ e. let z : ⊥ = omega arith in z;
+            begins = λ e. omega arith;
+            ends = λ e. omega arith;
           }
 
   pub empty_taken : Spelled empty f → empty_judged f ≡ Ok tt
@@ -174,7 +174,7 @@ module _ (f : List ℕ) where
           let r = (integer_judged_lem f 6 0 sheet_limits.margin).0 (integer_same 6 0 sheet_limits.margin f ∙ q) in
           let s : integer_of 6 0 sheet_limits.margin f ≡ Ok r.0 = (integer_exactly 6 0 sheet_limits.margin f r.0).1 r.1 in
           let b : r.0 ≤ sheet_limits.margin = r.1.2 in
-          rw (s, margin_known r.0 (λ z. let w : ⊥ = omega (arith, b, z) in w)) r.1.0
+          rw (s, margin_known r.0 (λ z. omega (arith, b, z))) r.1.0
 
   pub margin_taken : (m : Margin) → MarginLaw sheet_limits m → Spelled (margin m) f
       → (judged_of (margin_of sheet_limits.margin blank_margin f) ≡ Ok tt) × (margin_as (amount_of (margin_of sheet_limits.margin blank_margin f)) ≡ m)
@@ -182,7 +182,7 @@ module _ (f : List ℕ) where
   margin_taken Unknown b r = rw (nil_empty f r) (refl, margin_unknown blank_margin refl)
   margin_taken (Known v) b i =
       let s = integer_amount 6 0 sheet_limits.margin v (omega arith) b i in
-      rw (numeral_some i.digits, s) (refl, margin_known v (λ z. let w : ⊥ = omega (arith, b, z) in w))
+      rw (numeral_some i.digits, s) (refl, margin_known v (λ z. omega (arith, b, z)))
 
   pub label_spelled : label_judged f ≡ Ok tt → Spelled label f
   label_spelled e = (label_judged_lem f).0 e

@@ -51,10 +51,10 @@ module _ (s : ℕ) (pairs subs : List Subframe) where
     where
       go : (t : Bool) → eqb (length pairs) 1 ≡ t → subs ≡ cond t (tab s (λ i. get_or pairs 0 no_subframe)) pairs → (ps : List Subframe) → pairs ≡ ps → Declare pairs subs
       go false q h ps r = inl (sym h)
-      go true q h [] r = absurd (let z : ⊥ = omega (arith, eqb-true (length pairs) 1 q, ap length r) in z)
+      go true q h [] r = absurd (omega (arith, eqb-true (length pairs) 1 q, ap length r))
       go true q h (p ∷ []) r =
           inr (p, r, h ∙ ap (λ (l : List Subframe). tab s (λ i. get_or l 0 no_subframe)) r ∙ ap (λ (k : ℕ). tab k (λ i. p)) (sym n))
-      go true q h (p ∷ x ∷ ps) r = absurd (let z : ⊥ = omega (arith, eqb-true (length pairs) 1 q, ap length r) in z)
+      go true q h (p ∷ x ∷ ps) r = absurd (omega (arith, eqb-true (length pairs) 1 q, ap length r))
 
 module _ (K : Book) (l : List ℕ) (c : Content) (ls : List (List Item)) where
   -- ---- lines that are not due
