@@ -5,11 +5,11 @@ use mathlib.Core.List.{List, []}
 use Prim.Native.Nat.{ℕ, ◌+◌, ◌≤◌, ◌<◌}
 use native.Mathlib.Omega.{arith}
 use lib.ListN.{length, get_or, take, drop}
+use Rattle.std.specs.Prelude.{Err}
 use Rattle.text.specs.declared.refusal.Refusal.{Refusal}
 use Rattle.lines.specs.Line.{Ready, line_at}
 use Rattle.lines.specs.Lines.{none, lines_of}
 use Rattle.lines.specs.declared.Cursor.{Cursor}
-use Rattle.lines.specs.declared.Found.TheVariants as found
 use Rattle.lines.proofs.Cuts.{found_refused}
 use Rattle.lineforms.specs.declared.due.Due.{Due}
 use Rattle.lineforms.specs.declared.due.Due.TheVariants as due
@@ -113,7 +113,7 @@ module _ {s : List ℕ} {r : Rows} {c : Cursor} {t : State} (w : Judging s r c t
   judging_small = rw w.mine (small w.book w.opens judging_few)
 
   -- a raw line that is refused
-  pub judging_raw : c.at < length s → (q : Refusal) → line_at s c ≡ found.Refused q → refused q (c.number + 1) ≡ answer_of s
+  pub judging_raw : c.at < length s → (q : Refusal) → line_at s c ≡ Err q → refused q (c.number + 1) ≡ answer_of s
   judging_raw l q e =
       sym (answer_raw t.due w.book w.opens c.number (lines_of (drop c.at s)) q (lines_left s c.at l) (found_refused s c q e)) ∙ w.says
 

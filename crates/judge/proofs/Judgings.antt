@@ -5,10 +5,9 @@ use mathlib.Core.List.{List, ◌∷◌}
 use Prim.Native.Nat.{ℕ, ◌+◌, ◌-◌, ◌≤◌, ◌<◌}
 use native.Mathlib.Omega.{arith}
 use lib.ListN.{length, take, drop, set, get_or, length-set, length-take}
-use Rattle.text.specs.Refusals.{first, or_else}
+use Rattle.std.specs.Prelude.{Ok, Err}
+use Rattle.text.specs.Refusals.{Judged, first, or_else}
 use Rattle.text.specs.declared.refusal.Refusal.{Refusal}
-use Rattle.text.specs.declared.refusal.Judged.{Judged}
-use Rattle.text.specs.declared.refusal.Judged.TheVariants as judged
 use Rattle.lines.specs.Line.{raw_hits}
 use Rattle.lines.specs.Lines.{Lines, line, lines_of}
 use Rattle.lines.specs.Order.{line_judged}
@@ -69,7 +68,7 @@ fresh form.SourceEnd K os h = tt
 fresh form.ParameterEnd K os h = tt
 
 -- the raw line passes
-raw_passes : (ls : Lines) (l : List ℕ) (rest : Lines) → ls ≡ line l rest → head_judged ls ≡ judged.Passes → first (raw_hits true l) ≡ judged.Passes
+raw_passes : (ls : Lines) (l : List ℕ) (rest : Lines) → ls ≡ line l rest → head_judged ls ≡ Ok tt → first (raw_hits true l) ≡ Ok tt
 unfolding head_judged
 raw_passes ls l rest e h = sym (ap head_judged e) ∙ h
 
@@ -122,7 +121,7 @@ module _ {s : List ℕ} {rs : Rows} {c : Cursor} {t : State} (w : Judging s rs c
   unfolding judged_in
   tests_are = ap₂ or_else (ap₂ or_else form_is (sample_is f l K t.sample t.counts.own own_is w.sampled)) texts_is
 
-  passed_apt : judged_in f s l t rs ≡ judged.Passes → Apt f t.sample
+  passed_apt : judged_in f s l t rs ≡ Ok tt → Apt f t.sample
   unfolding judged_in
   passed_apt r =
       let a = form_tests f t.counts (take t.counts.pairs rs.words) (take t.counts.pairs rs.bits) l in
@@ -146,10 +145,10 @@ module _ {s : List ℕ} {rs : Rows} {c : Cursor} {t : State} (w : Judging s rs c
     says_line : answer t.due K w.opens c.number (line l (lines_of (drop nx.at s))) ≡ answer_of s
     says_line = ap (answer t.due K w.opens c.number) (sym cut) ∙ w.says
 
-    pub judging_refused : (q : Refusal) → judged_in f s l t rs ≡ judged.Refused q → refused q (c.number + 1) ≡ answer_of s
+    pub judging_refused : (q : Refusal) → judged_in f s l t rs ≡ Err q → refused q (c.number + 1) ≡ answer_of s
     judging_refused q r = sym (answer_refused t.due K w.opens c.number l (lines_of (drop nx.at s)) q (judged_at ∙ r)) ∙ says_line
 
-    module _ (r : judged_in f s l t rs ≡ judged.Passes) where
+    module _ (r : judged_in f s l t rs ≡ Ok tt) where
       pub judging_steady : Steady f l st t
       judging_steady =
           let m : length l ≤ en - st = rw p (omega (arith, length-take (en - st) (drop st s))) in

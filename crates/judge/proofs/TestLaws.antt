@@ -2,9 +2,8 @@
 use mathlib.Core.Path.{◌≡◌, refl}
 use mathlib.Core.List.{List, ◌∷◌}
 use Prim.Native.Nat.{ℕ}
-use Rattle.text.specs.Refusals.{first, or_else}
-use Rattle.text.specs.declared.refusal.Judged.{Judged}
-use Rattle.text.specs.declared.refusal.Judged.TheVariants.{Passes, Refused}
+use Rattle.std.specs.Prelude.{Ok, Err}
+use Rattle.text.specs.Refusals.{Judged, first, or_else}
 use Rattle.lineforms.specs.LineFields.{component_fields}
 use Rattle.lineforms.specs.declared.due.Form.{Form}
 use Rattle.lineforms.specs.declared.due.Form.TheVariants.{Stray, Superframe, HeaderWord, HeaderLine, RecordWord, RecordLine, NoneWord, ParameterWord, NameLine, OpeningComponent, ComponentLine, TimeLine, SamplesEnd, SignedLine, RangeLine, SourceLine, LabelLine, SourceEnd, ParameterEnd}
@@ -36,10 +35,10 @@ tests_gathered LabelLine l K = refl
 tests_gathered SourceEnd l K = refl
 tests_gathered ParameterEnd l K = refl
 
-second : (j : Judged) (js : List Judged) → or_else j (first js) ≡ first (Passes ∷ j ∷ js)
+second : (j : Judged) (js : List Judged) → or_else j (first js) ≡ first (Ok tt ∷ j ∷ js)
 unfolding first
-second Passes js = refl
-second (Refused r) js = refl
+second (Ok _) js = refl
+second (Err r) js = refl
 
 pub component_tests : (x : Tally) (ws bs l : List ℕ) → or_else (room_for_component_in x) (first (component_fields x.declared ws bs l)) ≡ form_tests ComponentLine x ws bs l
 unfolding form_tests

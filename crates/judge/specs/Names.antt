@@ -1,13 +1,11 @@
 -- Not part of the meaning: texts of a sheet by their places, as the code keeps those of earlier parameters.
-use Rattle.std.specs.Prelude.{ℕ, ◌+◌, ◌-◌, List, [], Bool, cond, not, ◌&&◌, ◌||◌, ltb, length}
+use Rattle.std.specs.Prelude.{ℕ, ◌+◌, ◌-◌, List, [], Bool, cond, not, ◌&&◌, ◌||◌, ltb, length, Ok}
 use Rattle.std.specs.List.{list_all}
 use Rattle.lay.specs.Bytes.{same, part}
 use Rattle.text.specs.Blanks.{is_empty}
 use Rattle.text.specs.Fields.{field_of, field_at}
-use Rattle.text.specs.Refusals.{when}
+use Rattle.text.specs.Refusals.{Judged, when}
 use Rattle.text.specs.declared.refusal.Refusal.TheVariants.{Repeated}
-use Rattle.text.specs.declared.refusal.Judged.{Judged}
-use Rattle.text.specs.declared.refusal.Judged.TheVariants.{Passes}
 use Rattle.lineforms.specs.declared.due.Form.{Form}
 use Rattle.lineforms.specs.declared.due.Form.TheVariants.{Stray, Superframe, HeaderWord, HeaderLine, RecordWord, RecordLine, NoneWord, ParameterWord, NameLine, OpeningComponent, ComponentLine, TimeLine, SamplesEnd, SignedLine, RangeLine, SourceLine, LabelLine, SourceEnd, ParameterEnd}
 use Rattle.judge.specs.declared.names.Place.{Place}
@@ -38,25 +36,25 @@ unlike_names s ks l =
     && ((is_empty (field_of 1 l) || new_mnemonic_in s ks (field_of 1 l)) && (is_empty (field_of 2 l) || new_identification_in s ks (field_of 2 l)))
 
 abbrev pub names_in : Form → List ℕ → List Kept → List ℕ → Judged
-names_in Stray s ks l = Passes
-names_in Superframe s ks l = Passes
-names_in HeaderWord s ks l = Passes
-names_in HeaderLine s ks l = Passes
-names_in RecordWord s ks l = Passes
-names_in RecordLine s ks l = Passes
-names_in NoneWord s ks l = Passes
-names_in ParameterWord s ks l = Passes
+names_in Stray s ks l = Ok tt
+names_in Superframe s ks l = Ok tt
+names_in HeaderWord s ks l = Ok tt
+names_in HeaderLine s ks l = Ok tt
+names_in RecordWord s ks l = Ok tt
+names_in RecordLine s ks l = Ok tt
+names_in NoneWord s ks l = Ok tt
+names_in ParameterWord s ks l = Ok tt
 names_in NameLine s ks l = when (not (unlike_names s ks l)) Repeated
-names_in OpeningComponent s ks l = Passes
-names_in ComponentLine s ks l = Passes
-names_in TimeLine s ks l = Passes
-names_in SamplesEnd s ks l = Passes
-names_in SignedLine s ks l = Passes
-names_in RangeLine s ks l = Passes
-names_in SourceLine s ks l = Passes
-names_in LabelLine s ks l = Passes
-names_in SourceEnd s ks l = Passes
-names_in ParameterEnd s ks l = Passes
+names_in OpeningComponent s ks l = Ok tt
+names_in ComponentLine s ks l = Ok tt
+names_in TimeLine s ks l = Ok tt
+names_in SamplesEnd s ks l = Ok tt
+names_in SignedLine s ks l = Ok tt
+names_in RangeLine s ks l = Ok tt
+names_in SourceLine s ks l = Ok tt
+names_in LabelLine s ks l = Ok tt
+names_in SourceEnd s ks l = Ok tt
+names_in ParameterEnd s ks l = Ok tt
 
 -- ---- places of the open parameter's texts
 

@@ -1,14 +1,11 @@
 -- Not part of the meaning: one line of the walk, by what the code keeps.
 use Rattle.std.specs.Prelude.{ℕ, ◌-◌, ◌≤◌, ◌≡◌, List, length, take, Result, Ok, Err}
 use Rattle.lay.specs.Bytes.{part}
-use Rattle.text.specs.Refusals.{or_else}
+use Rattle.text.specs.Refusals.{Judged, or_else, says}
 use Rattle.text.specs.declared.refusal.Refusal.{Refusal}
-use Rattle.text.specs.declared.refusal.Judged.{Judged}
-use Rattle.text.specs.declared.refusal.Judged.TheVariants as judged
-use Rattle.lines.specs.Line.{Ready}
+use Rattle.lines.specs.Line.{Ready, Found}
 use Rattle.lines.specs.declared.Cursor.{Cursor}
-use Rattle.lines.specs.declared.Found.{Found}
-use Rattle.lines.specs.declared.Found.TheVariants as found
+use Rattle.lines.specs.declared.Line.{Line}
 use Rattle.lineforms.specs.Forms.{form_of, due_after}
 use Rattle.lineforms.specs.declared.due.Due.TheVariants as due
 use Rattle.lineforms.specs.declared.due.Form.{Form}
@@ -90,15 +87,11 @@ judged_in f s l t r =
     (or_else (form_tests f t.counts (take t.counts.pairs r.words) (take t.counts.pairs r.bits) l) (sample_in f l t.sample t.counts.own))
     (names_in f s (take t.counts.parameters r.kept) l)
 
-abbrev pub passed_by : Judged → Form → ℕ → ℕ → Cursor → Result Passed Refusal
-passed_by judged.Passes f a e n = Ok (record { form = f; start = a; end = e; next = n })
-passed_by (judged.Refused q) f a e n = Err q
-
 -- by a line's bytes
-abbrev pub turn_at : List ℕ → List ℕ → State → Rows → ℕ → ℕ → Cursor → Result Passed Refusal
-turn_at l s t r a e n = passed_by (judged_in (form_here t l) s l t r) (form_here t l) a e n
+abbrev pub turn_at : List ℕ → List ℕ → State → Rows → Line → Result Passed Refusal
+turn_at b s t r l = says (judged_in (form_here t b) s b t r) (record { form = form_here t b; line = l })
 
 -- by what the cursor finds
 abbrev pub turn_of : Found → List ℕ → State → Rows → Result Passed Refusal
-turn_of (found.Refused q) s t r = Err q
-turn_of (found.Line a e n) s t r = turn_at (part s a (e - a)) s t r a e n
+turn_of (Err q) s t r = Err q
+turn_of (Ok l) s t r = turn_at (part s l.start (l.end - l.start)) s t r l

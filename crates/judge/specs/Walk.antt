@@ -1,10 +1,9 @@
 -- Not part of the meaning: where the run over the lines ends, and the judge's answer.
 use Rattle.std.specs.Prelude.{ℕ, ◌+◌, Bool, true, false, cond, List, Option, Some, None, Result, Ok, Err, eqb, take, get_or}
 use Rattle.lay.specs.Below.{all}
+use Rattle.text.specs.Refusals.{Judged}
 use Rattle.text.specs.declared.refusal.Refusal.{Refusal}
 use Rattle.text.specs.declared.refusal.Refusal.TheVariants.{Unended, BadIdentifiers}
-use Rattle.text.specs.declared.refusal.Judged.{Judged}
-use Rattle.text.specs.declared.refusal.Judged.TheVariants as judged
 use Rattle.lines.specs.Lines.{Lines, none, unended, line, lines_of}
 use Rattle.lines.specs.Order.{line_judged}
 use Rattle.lineforms.specs.Forms.{due_after}
@@ -23,8 +22,8 @@ use Rattle.judge.specs.declared.walk.Rejected.{Rejected}
 
 -- the Book after the last line reached
 abbrev pub onward : Judged → Book → Book → Book
-onward judged.Passes K B = B
-onward (judged.Refused q) K B = K
+onward (Ok _) K B = B
+onward (Err q) K B = K
 
 unfoldable pub end_book : Due → Book → Lines → Book
 end_book d K none = K

@@ -7,7 +7,7 @@ use crate::tests::refused_if;
 use lay::same_text;
 use lineforms::due::Form;
 use text::field::{field_at, field_of};
-use text::refusal::{Judged, Refusal};
+use text::refusal::Refusal;
 
 // The text at a place; nothing where the sheet has no such place.
 fn text_at(sheet: &[u8], place: Place) -> &[u8]
@@ -56,12 +56,12 @@ fn unlike_names(sheet: &[u8], line: &[u8], kept: &[Kept]) -> bool
 }
 
 // 15 of a line, by what it turned out to be.
-pub fn names_judged(form: Form, sheet: &[u8], line: &[u8], kept: &[Kept]) -> Judged
+pub fn names_judged(form: Form, sheet: &[u8], line: &[u8], kept: &[Kept]) -> Result<(), Refusal>
     ensures { result ≡ names_in form sheet.now kept.now line.now }
 {
     match form {
         Form::NameLine => refused_if(!unlike_names(sheet, line, kept), Refusal::Repeated),
-        _ => Judged::Passes,
+        _ => Ok(()),
     }
 }
 

@@ -10,7 +10,7 @@ use lineforms::said::{Part, part_in};
 use model::limits::{WIDTH, WORDS};
 use sample::clash::names_twice;
 use sample::component::{Component, Components};
-use text::refusal::{Judged, Refusal};
+use text::refusal::Refusal;
 
 // The open sample: the bits that its components give, the last one's overlap, the subframe of its first component, whether all lie
 // there. The first sample: its width, subframe and whether all lie there.
@@ -42,7 +42,7 @@ fn spot_of(p: Part) -> Component
 }
 
 // A bit twice, a width above its limit, or an overlap above its own, with one component more.
-fn joined_judged(g: Sampling, p: Part) -> Judged
+fn joined_judged(g: Sampling, p: Part) -> Result<(), Refusal>
     requires { (g.spots.count < sheet_limits.components_each) × (g.width ≤ sheet_limits.width) × Modest p }
     ensures { result ≡ joined_in g p }
 {
@@ -55,7 +55,7 @@ fn joined_judged(g: Sampling, p: Part) -> Judged
 }
 
 // The last component overlaps none, and the width is the first sample's, where this is not the first.
-fn width_judged(g: Sampling, own: usize) -> Judged
+fn width_judged(g: Sampling, own: usize) -> Result<(), Refusal>
     ensures { result ≡ width_test_in own g.lapped g.width g.first }
 {
     let wrong = g.lapped != 0 || g.width < 1 || own != 0 && g.width != g.first;
@@ -136,14 +136,14 @@ pub fn timed(g: Sampling, own: usize) -> Sampling
 }
 
 // 14 of a line, by what it turned out to be.
-pub fn sample_judged(form: Form, line: &[u8], g: Sampling, own: usize) -> Judged
+pub fn sample_judged(form: Form, line: &[u8], g: Sampling, own: usize) -> Result<(), Refusal>
     requires { Apt form g }
     ensures { result ≡ sample_in form line.now g own }
 {
     match form {
         Form::OpeningComponent | Form::ComponentLine => joined_judged(g, part_in(line)),
         Form::TimeLine => width_judged(g, own),
-        _ => Judged::Passes,
+        _ => Ok(()),
     }
 }
 

@@ -12,20 +12,20 @@ use lineforms::fields::{
     signed_fields, source_fields, time_fields,
 };
 use model::limits::{COMPONENTS, COMPONENTS_EACH, PARAMETERS, SAMPLES, SAMPLES_EACH};
-use text::refusal::{Judged, Refusal, or_else};
+use text::refusal::Refusal;
 
-pub fn refused_if(wrong: bool, refusal: Refusal) -> Judged
+pub fn refused_if(wrong: bool, refusal: Refusal) -> Result<(), Refusal>
     ensures { result ≡ when wrong refusal }
 {
     if wrong {
-        return Judged::Refused(refusal);
+        return Err(refusal);
     }
-    Judged::Passes
+    Ok(())
 }
 
 // 12: one parameter more.
 #[tactic(auto, unfolding(crate::specs::LineTests::room_for_parameter_in))]
-fn room_for_parameter(x: Tally) -> Judged
+fn room_for_parameter(x: Tally) -> Result<(), Refusal>
     ensures { result ≡ room_for_parameter_in x }
 {
     refused_if(PARAMETERS <= x.parameters, Refusal::TooMany)
@@ -33,7 +33,7 @@ fn room_for_parameter(x: Tally) -> Judged
 
 // 12: one sample more, which its first component opens.
 #[tactic(auto, unfolding(crate::specs::LineTests::room_for_sample_in))]
-fn room_for_sample(x: Tally) -> Judged
+fn room_for_sample(x: Tally) -> Result<(), Refusal>
     ensures { result ≡ room_for_sample_in x }
 {
     let full = SAMPLES_EACH <= x.own || SAMPLES <= x.samples || COMPONENTS <= x.components;
@@ -42,7 +42,7 @@ fn room_for_sample(x: Tally) -> Judged
 
 // 12: one component more.
 #[tactic(auto, unfolding(crate::specs::LineTests::room_for_component_in))]
-fn room_for_component(x: Tally) -> Judged
+fn room_for_component(x: Tally) -> Result<(), Refusal>
     ensures { result ≡ room_for_component_in x }
 {
     let full = COMPONENTS_EACH <= x.parts || COMPONENTS <= x.components;
@@ -51,24 +51,30 @@ fn room_for_component(x: Tally) -> Judged
 
 // 5 and 10, 12, then the fields left to right.
 #[tactic(auto, unfolding(crate::specs::LineTests::form_tests, text::specs::Refusals::first))]
-fn form_judged(form: Form, line: &[u8], x: Tally, words: &[u64], bits: &[u64]) -> Judged
+fn form_judged(
+    form: Form,
+    line: &[u8],
+    x: Tally,
+    words: &[u64],
+    bits: &[u64],
+) -> Result<(), Refusal>
     ensures { result ≡ form_tests form x words.now bits.now line.now }
 {
     match form {
-        Form::Stray => Judged::Refused(Refusal::NotDue),
-        Form::Superframe => Judged::Refused(Refusal::NotCarried),
+        Form::Stray => Err(Refusal::NotDue),
+        Form::Superframe => Err(Refusal::NotCarried),
         Form::HeaderLine => header_fields(line),
         Form::RecordLine => record_fields(line),
         Form::ParameterWord => room_for_parameter(x),
         Form::NameLine => name_fields(line),
-        Form::OpeningComponent => or_else(
-            room_for_sample(x),
-            component_fields(line, x.declared as u64, words, bits),
-        ),
-        Form::ComponentLine => or_else(
-            room_for_component(x),
-            component_fields(line, x.declared as u64, words, bits),
-        ),
+        Form::OpeningComponent => {
+            room_for_sample(x)?;
+            component_fields(line, x.declared as u64, words, bits)
+        }
+        Form::ComponentLine => {
+            room_for_component(x)?;
+            component_fields(line, x.declared as u64, words, bits)
+        }
         Form::TimeLine => time_fields(line),
         Form::SignedLine => signed_fields(line),
         Form::RangeLine => range_fields(line, x.identifier),
@@ -79,7 +85,7 @@ fn form_judged(form: Form, line: &[u8], x: Tally, words: &[u64], bits: &[u64]) -
         | Form::NoneWord
         | Form::SamplesEnd
         | Form::SourceEnd
-        | Form::ParameterEnd => Judged::Passes,
+        | Form::ParameterEnd => Ok(()),
     }
 }
 
@@ -91,13 +97,10 @@ pub fn line_judged(
     g: Sampling,
     words: &[u64],
     bits: &[u64],
-) -> Judged
+) -> Result<(), Refusal>
     requires { Fitting form x g }
     ensures { result ≡ or_else (form_tests form x words.now bits.now line.now) (sample_in form line.now g x.own) }
 {
-    let j = form_judged(form, line, x, words, bits);
-    match j {
-        Judged::Passes => sample_judged(form, line, g, x.own),
-        Judged::Refused(r) => Judged::Refused(r),
-    }
+    form_judged(form, line, x, words, bits)?;
+    sample_judged(form, line, g, x.own)
 }

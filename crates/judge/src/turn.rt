@@ -10,9 +10,9 @@ use crate::sampling::{Sampling, no_sample, sampling_after};
 use crate::tally::{Tally, counted, nothing};
 use crate::tests::line_judged;
 use lineforms::due::{Due, Form, due_after, form_of};
-use lines::{Cursor, Found};
+use lines::{Cursor, Line};
 use text::part::between;
-use text::refusal::{Judged, Refusal, or_else};
+use text::refusal::Refusal;
 
 // What is known before a line: what is due, the counts, the open sample, where the open parameter's texts stand, and the line of
 // its `PARAMETER:` word.
@@ -25,13 +25,11 @@ pub struct State {
     pub opened_at: u32,
 }
 
-// A line that passes, by its form and bounds, with the cursor past it.
+// A line that passes, by its form.
 #[derive(Clone, Copy)]
 pub struct Passed {
     pub form: Form,
-    pub start: usize,
-    pub end: usize,
-    pub next: Cursor,
+    pub line: Line,
 }
 
 pub fn at_start() -> State
@@ -48,15 +46,14 @@ pub fn at_start() -> State
 
 // The tests of a line: 5 to its fields, 14, then 15.
 #[tactic(auto, unfolding(crate::specs::Turns::judged_in))]
-fn judged(form: Form, sheet: &[u8], line: &[u8], t: &State, rows: &Rows) -> Judged
+fn judged(form: Form, sheet: &[u8], line: &[u8], t: &State, rows: &Rows) -> Result<(), Refusal>
     requires { Known t.now × Fitting form t.now.counts t.now.sample }
     ensures { result ≡ judged_in form sheet.now line.now t.now rows.now }
 {
     let words = &rows.words[..t.counts.pairs];
     let bits = &rows.bits[..t.counts.pairs];
-    let k = line_judged(form, line, t.counts, t.sample, words, bits);
-    let m = names_judged(form, sheet, line, &rows.kept[..t.counts.parameters]);
-    or_else(k, m)
+    line_judged(form, line, t.counts, t.sample, words, bits)?;
+    names_judged(form, sheet, line, &rows.kept[..t.counts.parameters])
 }
 
 // The next line, judged.
@@ -64,22 +61,11 @@ pub fn turn(sheet: &[u8], c: Cursor, t: &State, rows: &Rows) -> Result<Passed, R
     requires { Going sheet.now c t.now }
     ensures { result ≡ turn_of (line_at sheet.now c) sheet.now t.now rows.now }
 {
-    match c.next(sheet) {
-        Found::Refused(r) => Err(r),
-        Found::Line { start, end, next } => {
-            let line = between(sheet, start, end);
-            let form = form_of(t.due, t.counts.pairs, t.counts.declared, line);
-            match judged(form, sheet, line, t, rows) {
-                Judged::Refused(r) => Err(r),
-                Judged::Passes => Ok(Passed {
-                    form,
-                    start,
-                    end,
-                    next,
-                }),
-            }
-        }
-    }
+    let found = c.next(sheet)?;
+    let line = between(sheet, found.start, found.end);
+    let form = form_of(t.due, t.counts.pairs, t.counts.declared, line);
+    judged(form, sheet, line, t, rows)?;
+    Ok(Passed { form, line: found })
 }
 
 // The line of the open parameter's `PARAMETER:` word after the line of this number.

@@ -63,7 +63,8 @@ fn ended(t: &State, missing: u32, rows: &Rows) -> Result<Tally, Rejected>
     identified(t.counts, &rows.kept[..t.counts.parameters])
 }
 
-// The lines from the top.
+// The lines from the top: a cursor's loop, since each line begins where the one before it ended. (No `?` at a turn: a refusal is
+// given its line.)
 fn walked(sheet: &[u8], rows: &mut Rows) -> Result<Tally, Rejected>
     requires { length sheet.now ≤ 65536 }
     ensures { result ≡ verdict_of (judge_of sheet.now) (tally_of (book_of sheet.now)) }
@@ -72,15 +73,15 @@ fn walked(sheet: &[u8], rows: &mut Rows) -> Result<Tally, Rejected>
     let mut t = at_start();
     while c.at < sheet.len() {
         let number = c.number + 1;
-        match turn(sheet, c, &t, rows) {
+        let passed = match turn(sheet, c, &t, rows) {
+            Ok(passed) => passed,
             Err(r) => return refused(r, number),
-            Ok(passed) => {
-                let line = between(sheet, passed.start, passed.end);
-                rows.keep(passed.form, line, &t);
-                t = after(passed.form, line, passed.start, number, &t);
-                c = passed.next;
-            }
-        }
+        };
+        let found = passed.line;
+        let line = between(sheet, found.start, found.end);
+        rows.keep(passed.form, line, &t);
+        t = after(passed.form, line, found.start, number, &t);
+        c = found.next;
     }
     ended(&t, c.number + 1, rows)
 }
