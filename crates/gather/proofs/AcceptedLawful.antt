@@ -9,13 +9,13 @@ use native.Mathlib.Omega.{arith}
 use borrow.Author.Tests.{eqb-true, ltb-false}
 use lib.Dec.{eqb, ltb}
 use lib.ListN.{length, get_or}
+use Rattle.std.specs.Prelude.{Ok, Err}
 use Rattle.lay.specs.Below.{all, find}
 use Rattle.lay.proofs.Tests.{both, none, holds_not}
 use Rattle.lay.proofs.Below.{all_made, find_least}
+use Rattle.text.specs.Refusals.{Judged}
 use Rattle.text.specs.declared.refusal.Refusal.{Refusal}
 use Rattle.text.specs.declared.refusal.Refusal.TheVariants.{BadIdentifiers, SheetTooLong, Unended}
-use Rattle.text.specs.declared.refusal.Judged.{Judged}
-use Rattle.text.specs.declared.refusal.Judged.TheVariants as judged
 use Rattle.lines.specs.Lines.{Lines, none as noLines, unended, line, lines_of}
 use Rattle.lines.specs.Order.{line_judged}
 use Rattle.lineforms.specs.Forms.{due_after}
@@ -40,7 +40,7 @@ use Rattle.gather.proofs.Steps.{sound_step}
 use Rattle.gather.proofs.Stages.{unended_run}
 
 pub never : {A : Type 0} (r : Refusal) (k : ℕ) (c : Content) → Refused r k ≡ Accepted c → A
-never r k c e = absurd (let z : ◌≡◌ {A = ℕ} 0 1 = cc in omega arith)
+never r k c e = absurd (cc)
 
 -- ---- 16, after the last line
 
@@ -54,8 +54,7 @@ none_bad c e = all_made (parameters c) (identifies c) (λ k l. go k l (identifie
     go k l false q =
         absurd
         (let f = find_least (parameters c) (λ i. not (identifies c i)) k l (holds_not (identifies c k) q) in
-        let z : ⊥ = omega (arith, ltb-false (find (parameters c) (λ i. not (identifies c i))) (parameters c) e) in
-        z)
+        omega (arith, ltb-false (find (parameters c) (λ i. not (identifies c i))) (parameters c) e))
 
 pub record Identified (c d : Content) : Type 0 where
   pub same : d ≡ c
@@ -139,8 +138,8 @@ run_lawful d K os k (line l ls) c h e =
         → (Sound (due_after (form_at d K l)) (grow (form_at d K l) l K) → run (due_after (form_at d K l)) (grow (form_at d K l) l K) (opens (form_at d K l) (k + 1) os) (k + 1) ls ≡ Accepted c → lawful sheet_limits c ≡ true)
         → on_judged j (k + 1) (run (due_after (form_at d K l)) (grow (form_at d K l) l K) (opens (form_at d K l) (k + 1) os) (k + 1) ls) ≡ Accepted c
         → lawful sheet_limits c ≡ true
-    go judged.Passes p ih q = ih (sound_step d K l h p) q
-    go (judged.Refused r) p ih q = never r (k + 1) c q
+    go (Ok _) p ih q = ih (sound_step d K l h p) q
+    go (Err r) p ih q = never r (k + 1) c q
 
 -- ---- the sheet
 

@@ -4,7 +4,6 @@ use mathlib.Core.Path.{◌≡◌, refl, sym, ◌∙◌}
 use mathlib.Core.Bool.{Bool, true, false, cond}
 use mathlib.Core.List.{List}
 use mathlib.Core.Logic.{◌⊎◌, inl, inr}
-use native.Mathlib.Omega.{arith}
 use borrow.Author.Tests.{ltb-true, ltb-false, eqb-false}
 use lib.Dec.{eqb, ltb}
 use lib.ListN.{get_or}
@@ -75,9 +74,9 @@ unidentified c os r k e = go (eqb (parameters c) 0) refl (ltb (first_bad c) (par
     go : (a : Bool) → eqb (parameters c) 0 ≡ a → (b : Bool) → ltb (first_bad c) (parameters c) ≡ b → (t : Bool) → all (subframes c) (λ s. taken c (s + 1)) ≡ t
         → cond a (Accepted c) (cond b (Refused BadIdentifiers (get_or os (first_bad c) 0)) (cond t (Accepted c) (Refused BadIdentifiers 0))) ≡ Refused r k
         → Unidentified c os r k
-    go true n b p t u h = let z : ◌≡◌ {A = ℕ} 0 1 = cc in absurd (omega arith)
+    go true n b p t u h = absurd (cc)
     go false n true p t u h = record { number = cc; place = inr (ltb-true _ _ p, cc) }
-    go false n false p true u h = let z : ◌≡◌ {A = ℕ} 0 1 = cc in absurd (omega arith)
+    go false n false p true u h = absurd (cc)
     go false n false p false u h =
         record { number = cc; place = inl (cc, record { some = eqb-false _ _ n; good = ltb-false _ _ p; untaken = u }) }
 

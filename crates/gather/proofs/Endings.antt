@@ -7,8 +7,8 @@ use native.Mathlib.Omega.{arith}
 use borrow.Author.Count.{below_more}
 use lib.ListN.{length, get_or, get_or-append}
 use lib.Seq.{get_or_at}
+use Rattle.std.specs.Prelude.{Ok}
 use Rattle.text.specs.Fields.{field_of}
-use Rattle.text.specs.declared.refusal.Judged.TheVariants.{Passes}
 use Rattle.lines.specs.Order.{line_judged}
 use Rattle.lineforms.specs.declared.due.Form.TheVariants as form
 use Rattle.model.specs.Content.{Parameter, no_parameter}
@@ -45,7 +45,7 @@ module _ (K : Book) (l : List ℕ) (h : Filled K) where
         some = h.some;
       }
 
-  pub ranges : line_judged true l (tests_of form.RangeLine K l) ≡ Passes → Filled (grow form.RangeLine l K)
+  pub ranges : line_judged true l (tests_of form.RangeLine K l) ≡ Ok tt → Filled (grow form.RangeLine l K)
   ranges e =
       let q = passed form.RangeLine K l e in
       let v = value_amount K.opened.identifier (field_of 0 l) (q 5) in

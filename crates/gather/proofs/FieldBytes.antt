@@ -8,11 +8,11 @@ use native.Mathlib.Omega.{arith}
 use borrow.Author.Tests.{eqb-true, leb-true}
 use lib.Dec.{eqb, leb}
 use lib.ListN.{length, get_or, take}
+use Rattle.std.specs.Prelude.{Ok}
 use Rattle.lay.proofs.Tests.{and_0, and_1, or_either, differ}
 use Rattle.text.specs.Blanks.{space, tab, is_blank, before, trim_start, trim_end, trim}
 use Rattle.text.specs.Parts.{index_of, up_to, past}
 use Rattle.text.specs.Fields.{comma, piece_of, field_of}
-use Rattle.text.specs.declared.refusal.Judged.TheVariants.{Passes}
 use Rattle.text.proofs.Trims.{start_drop, end_take}
 use Rattle.text.proofs.Places.{past_of, piece_past}
 use Rattle.spell.specs.Texts.{text_judged}
@@ -64,7 +64,7 @@ field_comma k l = trim_each (λ x. x ≡ comma → ⊥) (piece_of k l) (rw (piec
 
 start_first : (l : List ℕ) → get_or (trim_start l) 0 0 ≡ space → ⊥
 unfolding trim_start
-start_first [] e = let z : ⊥ = omega arith in z
+start_first [] e = omega arith
 start_first (b ∷ l) e = go (is_blank b) refl (λ q. start_first l q) e
   where
     go : (t : Bool) → is_blank b ≡ t → (get_or (trim_start l) 0 0 ≡ space → ⊥) → get_or (cond t (trim_start l) (b ∷ l)) 0 0 ≡ space → ⊥
@@ -72,17 +72,17 @@ start_first (b ∷ l) e = go (is_blank b) refl (λ q. start_first l q) e
     go false h ih q = differ h (rw q refl)
 
 take_first : (n : ℕ) (l : List ℕ) → (get_or l 0 0 ≡ space → ⊥) → get_or (take n l) 0 0 ≡ space → ⊥
-take_first zero l h e = let z : ⊥ = omega arith in z
-take_first (suc n) [] h e = let z : ⊥ = omega arith in z
+take_first zero l h e = omega arith
+take_first (suc n) [] h e = omega arith
 take_first (suc n) (x ∷ l) h e = h e
 
 end_last : (l : List ℕ) → get_or (trim_end l) (length (trim_end l) - 1) 0 ≡ space → ⊥
 unfolding trim_end
-end_last [] e = let z : ⊥ = omega arith in z
+end_last [] e = omega arith
 end_last (b ∷ l) e = go (trim_end l) (λ q. end_last l q) e
   where
     one : (t : Bool) → is_blank b ≡ t → get_or (cond t [] (b ∷ [])) (length (cond t [] (b ∷ [])) - 1) 0 ≡ space → ⊥
-    one true h q = let z : ⊥ = omega arith in z
+    one true h q = omega arith
     one false h q = differ h (rw q refl)
 
     go : (m : List ℕ) → (get_or m (length m - 1) 0 ≡ space → ⊥) → get_or (before b m) (length (before b m) - 1) 0 ≡ space → ⊥
@@ -117,7 +117,7 @@ clean_byte x h t c =
     (or_either (eqb x 9) (leb 32 x && leb x 126) h)
 
 pub field_text : (k : ℕ) (l : List ℕ) (mandatory : Bool) → all_clean l ≡ true
-    → text_judged sheet_limits.text mandatory (field_of k l) ≡ Passes → TextLaw sheet_limits (field_of k l)
+    → text_judged sheet_limits.text mandatory (field_of k l) ≡ Ok tt → TextLaw sheet_limits (field_of k l)
 field_text k l mandatory c e =
     let r = ((text_exactly sheet_limits.text mandatory (field_of k l)).0 e).0 in
     record {
@@ -128,5 +128,5 @@ field_text k l mandatory c e =
       ends = field_last k l;
     }
 
-pub field_some : (k : ℕ) (l : List ℕ) → text_judged sheet_limits.text true (field_of k l) ≡ Passes → 1 ≤ length (field_of k l)
+pub field_some : (k : ℕ) (l : List ℕ) → text_judged sheet_limits.text true (field_of k l) ≡ Ok tt → 1 ≤ length (field_of k l)
 field_some k l e = ((text_exactly sheet_limits.text true (field_of k l)).0 e).1 refl

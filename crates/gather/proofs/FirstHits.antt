@@ -9,11 +9,10 @@ use mathlib.Core.Logic.{◌⊎◌, inl, inr, ⊎_elim}
 use borrow.Author.Tests.{le-ltb}
 use lib.Dec.{ltb}
 use lib.ListN.{length, get_or}
-use Rattle.text.specs.Refusals.{first}
+use Rattle.std.specs.Prelude.{Ok, Err}
+use Rattle.text.specs.Refusals.{first, Judged}
 use Rattle.text.specs.declared.refusal.Refusal.{Refusal}
 use Rattle.text.specs.declared.refusal.Refusal.TheVariants.{SheetTooLong, Unended, BadIdentifiers}
-use Rattle.text.specs.declared.refusal.Judged.{Judged}
-use Rattle.text.specs.declared.refusal.Judged.TheVariants as judged
 use Rattle.lines.specs.Line.{raw_hits}
 use Rattle.lines.specs.Lines.{Lines, none, unended, line, lines_of}
 use Rattle.lines.specs.Order.{Tests, hits, line_judged}
@@ -55,7 +54,7 @@ ruled s r k n e = go (ltb longest_sheet (length s)) e
     go false h = h
 
 pub not_own : (r q : Refusal) → of_line r ≡ true → q ≡ r → of_line q ≡ false → ⊥
-not_own r q o e n = let z : ◌≡◌ {A = Bool} false true = sym n ∙ ap of_line e ∙ o in let y : ◌≡◌ {A = ℕ} 0 1 = cc in omega arith
+not_own r q o e n = let z : ◌≡◌ {A = Bool} false true = sym n ∙ ap of_line e ∙ o in cc
 
 ended_not_own : (d : Due) (K : Book) (os : List ℕ) (m : ℕ) (r : Refusal) (k : ℕ) → of_line r ≡ true → Ended d K os m r k → ⊥
 ended_not_own d K os m r k o x =
@@ -79,7 +78,7 @@ hit_after g n os ls r k o e = go (course g n os ls) e
     go : {v : Ruling} → Course g n os ls v → v ≡ Refused r k → HitAfter g n ls r k
     go (stops i h a q p) u =
         let q-is : q ≡ r = cc in
-        record { behind = i; counted = cc; inside = h; hit = first_hit (tests_at i g ls) r (p ∙ ap judged.Refused q-is); earlier = a }
+        record { behind = i; counted = cc; inside = h; hit = first_hit (tests_at i g ls) r (p ∙ ap Err q-is); earlier = a }
     go (breaks w a) u = absurd (not_own r Unended o (cc) refl)
     go (ends w a) u =
         let f = reached (lines ls) g ls in
@@ -92,7 +91,7 @@ first_hit_refused s r k o e =
 
 pub unended_refused : (s : List ℕ) (k : ℕ) → judge_of s ≡ Refused Unended k → UnendedAt s k
 unended_refused s k e =
-    go (course start 0 [] (lines_of s)) (ruled s Unended k (λ h. let z : ◌≡◌ {A = ℕ} 0 1 = cc in omega arith) e)
+    go (course start 0 [] (lines_of s)) (ruled s Unended k (λ h. cc) e)
   where
     go : {v : Ruling} → Course start 0 [] (lines_of s) v → v ≡ Refused Unended k → UnendedAt s k
     go (stops i h a q p) u =
@@ -104,26 +103,25 @@ unended_refused s k e =
     go (ends w a) u =
         ⊎_elim
         (λ y. let k-is = y.2 in record { counted = omega arith; lacks = inr (w, y.0); earlier = a })
-        (λ y. absurd (let z = y.1.number in let o : ◌≡◌ {A = ℕ} 0 1 = cc in omega arith))
+        (λ y. absurd (let z = y.1.number in cc))
         (end_refused (reached (lines (lines_of s)) start (lines_of s)).due (reached (lines (lines_of s)) start (lines_of s)).book (opened start 0 [] (lines_of s)) (0 + lines (lines_of s) + 1) Unended k u).either
 
 -- ---- and the other way: what is the first hit of a line after lines that pass is the sheet's refusal
 
-hit_first : (js : List Judged) (k : ℕ) (r : Refusal) → get_or js k judged.Passes ≡ judged.Refused r
-    → ((i : ℕ) → i < k → get_or js i judged.Passes ≡ judged.Passes) → first js ≡ judged.Refused r
+hit_first : (js : List Judged) (k : ℕ) (r : Refusal) → get_or js k (Ok tt) ≡ Err r
+    → ((i : ℕ) → i < k → get_or js i (Ok tt) ≡ Ok tt) → first js ≡ Err r
 unfolding first
-hit_first [] zero r e h = let z : ◌≡◌ {A = ℕ} 0 1 = cc in absurd (omega arith)
-hit_first [] (suc k) r e h = let z : ◌≡◌ {A = ℕ} 0 1 = cc in absurd (omega arith)
-hit_first (judged.Passes ∷ js) zero r e h = let z : ◌≡◌ {A = ℕ} 0 1 = cc in absurd (omega arith)
-hit_first (judged.Passes ∷ js) (suc k) r e h = hit_first js k r e (λ i l. h (suc i) (omega arith))
-hit_first (judged.Refused q ∷ js) zero r e h = e
-hit_first (judged.Refused q ∷ js) (suc k) r e h =
+hit_first [] zero r e h = absurd (cc)
+hit_first [] (suc k) r e h = absurd (cc)
+hit_first (Ok _ ∷ js) zero r e h = absurd (cc)
+hit_first (Ok _ ∷ js) (suc k) r e h = hit_first js k r e (λ i l. h (suc i) (omega arith))
+hit_first (Err q ∷ js) zero r e h = e
+hit_first (Err q ∷ js) (suc k) r e h =
     let p = h 0 (omega arith) in
-    let z : ◌≡◌ {A = ℕ} 0 1 = cc in
-    absurd (omega arith)
+    absurd (cc)
 
 run_hit : (i : ℕ) (g : Stage) (os : List ℕ) (n : ℕ) (ls : Lines) (r : Refusal) → i < lines ls → ((j : ℕ) → j < i → AllPass (tests_at j g ls))
-    → first (tests_at i g ls) ≡ judged.Refused r → run g.due g.book os n ls ≡ Refused r (n + i + 1)
+    → first (tests_at i g ls) ≡ Err r → run g.due g.book os n ls ≡ Refused r (n + i + 1)
 unfolding run line_judged
 run_hit i g os n none r h a e = absurd (omega arith)
 run_hit i g os n (unended l) r h a e = absurd (omega arith)

@@ -8,11 +8,10 @@ use mathlib.Core.List.{List, [], ◌∷◌, ◌++◌}
 use borrow.Author.Tests.{le-ltb}
 use lib.Dec.{eqb}
 use lib.ListN.{length}
-use Rattle.text.specs.Refusals.{first}
+use Rattle.std.specs.Prelude.{Ok, Err}
+use Rattle.text.specs.Refusals.{first, Judged}
 use Rattle.text.specs.declared.refusal.Refusal.{Refusal}
 use Rattle.text.specs.declared.refusal.Refusal.TheVariants.{SheetTooLong}
-use Rattle.text.specs.declared.refusal.Judged.{Judged}
-use Rattle.text.specs.declared.refusal.Judged.TheVariants as judged
 use Rattle.lines.specs.Line.{end_byte}
 use Rattle.lines.specs.Lines.{Lines, none, unended, line, push, lines_of}
 use Rattle.lines.specs.Order.{line_judged}
@@ -25,8 +24,8 @@ abbrev run_from : Stage → List ℕ → ℕ → Lines → Ruling
 run_from g os n ls = run g.due g.book os n ls
 
 judged_same : (v : Judged) (m : ℕ) (a b : Ruling) (r : Refusal) (k : ℕ) → (a ≡ Refused r k → b ≡ Refused r k) → on_judged v m a ≡ Refused r k → on_judged v m b ≡ Refused r k
-judged_same judged.Passes m a b r k f e = f e
-judged_same (judged.Refused q) m a b r k f e = e
+judged_same (Ok _) m a b r k f e = f e
+judged_same (Err q) m a b r k f e = e
 
 -- the lines from here on: those up to the refused one are the same
 same_run : (i : ℕ) (g : Stage) (os : List ℕ) (n : ℕ) (xs ys : Lines) (r : Refusal) (k : ℕ) → of_line r ≡ true → k ≡ n + i
@@ -35,8 +34,8 @@ unfolding run line_judged first
 same_run zero g os n xs ys r k o c f e = let h = hit_after g n os xs r k o e in absurd (omega arith)
 same_run (suc i) g os n none ys r k o c f e = let h = hit_after g n os none r k o e in absurd (omega arith)
 same_run (suc i) g os n (unended l) ys r k o c f e = let h = hit_after g n os (unended l) r k o e in absurd (omega arith)
-same_run (suc i) g os n (line l xs) none r k o c f e = let z : ◌≡◌ {A = ℕ} 0 1 = cc in absurd (omega arith)
-same_run (suc i) g os n (line l xs) (unended y) r k o c f e = let z : ◌≡◌ {A = ℕ} 0 1 = cc in absurd (omega arith)
+same_run (suc i) g os n (line l xs) none r k o c f e = absurd (cc)
+same_run (suc i) g os n (line l xs) (unended y) r k o c f e = absurd (cc)
 same_run (suc i) g os n (line l xs) (line m ys) r k o c f e =
     let same : m ≡ l = cc in
     let rest : first_lines i xs ≡ first_lines i ys = cc in
@@ -65,8 +64,8 @@ after (unended l) m = unended l
 after (line l ls) m = line l (after ls m)
 
 push_whole : (b : ℕ) (p q m : Lines) → whole (push b p) ≡ true → (whole p ≡ true → q ≡ after p m) → push b q ≡ after (push b p) m
-push_whole b none q m w f = let z : ◌≡◌ {A = ℕ} 0 1 = cc in absurd (omega arith)
-push_whole b (unended l) q m w f = let z : ◌≡◌ {A = ℕ} 0 1 = cc in absurd (omega arith)
+push_whole b none q m w f = absurd (cc)
+push_whole b (unended l) q m w f = absurd (cc)
 push_whole b (line l ls) q m w f = rw (f w)
 
 lines_after : (p x : List ℕ) → whole (lines_of p) ≡ true → lines_of (p ++ x) ≡ after (lines_of p) (lines_of x)

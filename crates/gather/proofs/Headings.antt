@@ -7,9 +7,9 @@ use Prim.Native.Nat.{ℕ, zero, suc, ◌<◌}
 use native.Mathlib.Omega.{arith}
 use borrow.Author.Tests.{leb-false, not-false}
 use lib.ListN.{length, get_or}
+use Rattle.std.specs.Prelude.{Ok}
 use Rattle.lay.proofs.Tests.{and_0, and_1}
 use Rattle.text.specs.Fields.{field_of}
-use Rattle.text.specs.declared.refusal.Judged.TheVariants.{Passes}
 use Rattle.written.proofs.Passing.{when_false}
 use Rattle.lines.specs.Line.{all_clean, raw_hits}
 use Rattle.lines.specs.Order.{hits, line_judged}
@@ -30,13 +30,13 @@ use Rattle.gather.proofs.Amounts.{integer_amount, margin_amount, seconds_amount}
 use Rattle.gather.proofs.Sound.{subs_of, Fresh, Headed, Between, Named, Closed}
 
 -- every test of a line that passes: three of the raw line, 5, 12, its fields, 14 and 15
-pub passed : (f : Form) (K : Book) (l : List ℕ) → line_judged true l (tests_of f K l) ≡ Passes → (i : ℕ) → get_or (raw_hits true l ++ hits (tests_of f K l)) i Passes ≡ Passes
+pub passed : (f : Form) (K : Book) (l : List ℕ) → line_judged true l (tests_of f K l) ≡ Ok tt → (i : ℕ) → get_or (raw_hits true l ++ hits (tests_of f K l)) i (Ok tt) ≡ Ok tt
 unfolding line_judged
 passed f K l e i = first_none (raw_hits true l ++ hits (tests_of f K l)) e i
 
 module _ (K : Book) (l : List ℕ) where
   -- the header line
-  pub heads : Fresh K → line_judged true l (tests_of form.HeaderLine K l) ≡ Passes → Headed (grow form.HeaderLine l K)
+  pub heads : Fresh K → line_judged true l (tests_of form.HeaderLine K l) ≡ Ok tt → Headed (grow form.HeaderLine l K)
   heads h e =
       let q = passed form.HeaderLine K l e in
       let s = integer_amount (field_of 11 l) 6 1 sheet_limits.subframes (q 16) in
@@ -49,7 +49,7 @@ module _ (K : Book) (l : List ℕ) where
       }
 
   -- a record pair's line
-  pair_law : line_judged true l (tests_of form.RecordLine K l) ≡ Passes → SubframeLaw sheet_limits (subframe_of l)
+  pair_law : line_judged true l (tests_of form.RecordLine K l) ≡ Ok tt → SubframeLaw sheet_limits (subframe_of l)
   pair_law e =
       let q = passed form.RecordLine K l e in
       let b = integer_amount (field_of 0 l) 6 1 sheet_limits.bits (q 5) in
@@ -64,7 +64,7 @@ module _ (K : Book) (l : List ℕ) where
         seconds = seconds_amount (field_of 4 l) (q 9);
       }
 
-  pub records : Headed K → line_judged true l (tests_of form.RecordLine K l) ≡ Passes → Headed (grow form.RecordLine l K)
+  pub records : Headed K → line_judged true l (tests_of form.RecordLine K l) ≡ Ok tt → Headed (grow form.RecordLine l K)
   records h e =
       record {
         some = h.some;
@@ -75,11 +75,11 @@ module _ (K : Book) (l : List ℕ) where
       }
 
   -- 12 on the line that opens a parameter
-  room_parameter : room_for_parameter K ≡ Passes → length K.parameters < sheet_limits.parameters
+  room_parameter : room_for_parameter K ≡ Ok tt → length K.parameters < sheet_limits.parameters
   unfolding room_for_parameter
   room_parameter e = leb-false sheet_limits.parameters (length K.parameters) (when_false _ _ e)
 
-  pub opens_parameter : Between K → line_judged true l (tests_of form.ParameterWord K l) ≡ Passes → Named (grow form.ParameterWord l K)
+  pub opens_parameter : Between K → line_judged true l (tests_of form.ParameterWord K l) ≡ Ok tt → Named (grow form.ParameterWord l K)
   opens_parameter h e = record { between = h; room = room_parameter (passed form.ParameterWord K l e 4) }
 
 -- ---- the names
@@ -91,7 +91,7 @@ apart_each (p ∷ ps) q e zero l = apart_law p q (and_0 (named_apart p q) (apart
 apart_each (p ∷ ps) q e (suc k) l = apart_each ps q (and_1 (named_apart p q) (apart_from ps q) e) k (omega arith)
 
 module _ (K : Book) (l : List ℕ) where
-  pub names_parameter : Named K → line_judged true l (tests_of form.NameLine K l) ≡ Passes → Closed (grow form.NameLine l K)
+  pub names_parameter : Named K → line_judged true l (tests_of form.NameLine K l) ≡ Ok tt → Closed (grow form.NameLine l K)
   unfolding components_of
   names_parameter h e =
       let q = passed form.NameLine K l e in

@@ -7,8 +7,8 @@ use native.Mathlib.Omega.{arith}
 use borrow.Author.Tests.{leb-false, ltb-true, ltb-false, lt-ltb, le-ltb, eqb-true, not-false}
 use lib.Dec.{eqb, leb, ltb}
 use lib.ListN.{length, get_or}
+use Rattle.std.specs.Prelude.{Ok}
 use Rattle.sample.specs.Clash.{twice}
-use Rattle.text.specs.declared.refusal.Judged.TheVariants.{Passes}
 use Rattle.written.proofs.Tests.{neither}
 use Rattle.written.proofs.Passing.{when_false}
 use Rattle.model.specs.Content.{Component, Sample, no_component, component}
@@ -26,7 +26,7 @@ pub record JoinedLaw (cs : List Component) (c : Component) : Type 0 where
   pub lapped : c.overlap < bit_count c
   pub next : last_overlap cs ≤ bit_count c
 
-pub joined_passed : (cs : List Component) (c : Component) → joined_test cs c ≡ Passes → JoinedLaw cs c
+pub joined_passed : (cs : List Component) (c : Component) → joined_test cs c ≡ Ok tt → JoinedLaw cs c
 unfolding joined_test
 joined_passed cs c e =
     let l = leb (bit_count c) c.overlap in
@@ -42,7 +42,7 @@ joined_passed cs c e =
       next = ltb-false (bit_count c) (last_overlap cs) d.1;
     }
 
-pub width_passed : (ss : List Sample) (cs : List Component) → width_test ss cs ≡ Passes → (last_overlap cs ≡ 0) × (unlike_first ss cs ≡ false)
+pub width_passed : (ss : List Sample) (cs : List Component) → width_test ss cs ≡ Ok tt → (last_overlap cs ≡ 0) × (unlike_first ss cs ≡ false)
 unfolding width_test
 width_passed ss cs e =
     let a = neither (not (eqb (last_overlap cs) 0)) (ltb (given cs) 1 || unlike_first ss cs) (when_false _ _ e) in

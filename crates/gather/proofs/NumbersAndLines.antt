@@ -68,16 +68,16 @@ none_open due.HeaderLine e = refl
 none_open due.RecordWord e = refl
 none_open due.RecordLine e = refl
 none_open due.Opening e = refl
-none_open due.NameLine e = let z : ◌≡◌ {A = ℕ} 0 1 = cc in absurd (omega arith)
-none_open due.FirstComponent e = let z : ◌≡◌ {A = ℕ} 0 1 = cc in absurd (omega arith)
-none_open due.NextComponent e = let z : ◌≡◌ {A = ℕ} 0 1 = cc in absurd (omega arith)
-none_open due.AfterSample e = let z : ◌≡◌ {A = ℕ} 0 1 = cc in absurd (omega arith)
-none_open due.SignedLine e = let z : ◌≡◌ {A = ℕ} 0 1 = cc in absurd (omega arith)
-none_open due.RangeLine e = let z : ◌≡◌ {A = ℕ} 0 1 = cc in absurd (omega arith)
-none_open due.SourceLine e = let z : ◌≡◌ {A = ℕ} 0 1 = cc in absurd (omega arith)
-none_open due.AfterSource e = let z : ◌≡◌ {A = ℕ} 0 1 = cc in absurd (omega arith)
-none_open due.SourceBlank e = let z : ◌≡◌ {A = ℕ} 0 1 = cc in absurd (omega arith)
-none_open due.AfterSourceBlank e = let z : ◌≡◌ {A = ℕ} 0 1 = cc in absurd (omega arith)
+none_open due.NameLine e = absurd (cc)
+none_open due.FirstComponent e = absurd (cc)
+none_open due.NextComponent e = absurd (cc)
+none_open due.AfterSample e = absurd (cc)
+none_open due.SignedLine e = absurd (cc)
+none_open due.RangeLine e = absurd (cc)
+none_open due.SourceLine e = absurd (cc)
+none_open due.AfterSource e = absurd (cc)
+none_open due.SourceBlank e = absurd (cc)
+none_open due.AfterSourceBlank e = absurd (cc)
 none_open due.NextParameter e = refl
 none_open due.Nothing e = refl
 
@@ -116,14 +116,14 @@ at_end_lem s l =
     record {
       least = omega arith;
       most = omega arith;
-      long = short s Unended l (λ e. let z : ◌≡◌ {A = ℕ} 0 1 = cc in omega arith);
-      unread = λ e. let z : ◌≡◌ {A = ℕ} 0 1 = cc in absurd (omega arith);
+      long = short s Unended l (λ e. cc);
+      unread = λ e. absurd (cc);
       unlined = λ e. absurd (omega arith);
       within = omega arith;
       beyond = ((λ e. refl), (λ e. refl));
-      last = λ e. let z : ◌≡◌ {A = ℕ} 0 1 = cc in absurd (omega arith);
-      word = λ e k. let z : ◌≡◌ {A = ℕ} 0 1 = cc in absurd (omega arith);
-      untaken = λ e k. let z : ◌≡◌ {A = ℕ} 0 1 = cc in absurd (omega arith);
+      last = λ e. absurd (cc);
+      word = λ e k. absurd (cc);
+      untaken = λ e k. absurd (cc);
     }
 
 -- 16, at 0 or at a word
@@ -161,11 +161,11 @@ module _ (s : List ℕ) (l : length s ≤ longest_sheet) (ended : whole (lines_o
           record {
             least = omega arith;
             most = omega arith;
-            long = short s BadIdentifiers l (λ e. let o : ◌≡◌ {A = ℕ} 0 1 = cc in omega arith);
+            long = short s BadIdentifiers l (λ e. cc);
             unread = λ e. z;
             unlined = λ e. inr refl;
             within = omega arith;
-            beyond = ((λ e. absurd (omega arith)), (λ e. let o : ◌≡◌ {A = ℕ} 0 1 = cc in absurd (omega arith)));
+            beyond = ((λ e. absurd (omega arith)), (λ e. absurd (cc)));
             last = λ e. record { ended = ended; passed = all_pass };
             word = λ e n. absurd (n z);
             untaken = λ e n. t;
@@ -176,11 +176,11 @@ module _ (s : List ℕ) (l : length s ≤ longest_sheet) (ended : whole (lines_o
           record {
             least = omega arith;
             most = omega arith;
-            long = short s BadIdentifiers l (λ e. let o : ◌≡◌ {A = ℕ} 0 1 = cc in omega arith);
-            unread = λ e. let z : ◌≡◌ {A = ℕ} 0 1 = cc in absurd (omega arith);
+            long = short s BadIdentifiers l (λ e. cc);
+            unread = λ e. absurd (cc);
             unlined = λ e. inr refl;
             within = omega (arith, p.counted, p.inside);
-            beyond = ((λ e. absurd (omega (arith, p.counted, p.inside))), (λ e. let o : ◌≡◌ {A = ℕ} 0 1 = cc in absurd (omega arith)));
+            beyond = ((λ e. absurd (omega (arith, p.counted, p.inside))), (λ e. absurd (cc)));
             last = λ e. record { ended = ended; passed = all_pass };
             word = λ e n. p;
             untaken = λ e n. absurd (omega (arith, p.counted));
@@ -222,9 +222,9 @@ refused_sensibly s r k e = go (ltb longest_sheet (length s)) refl e
           unread = λ x. refl;
           unlined = λ x. inl refl;
           within = omega arith;
-          beyond = ((λ x. absurd (omega arith)), (λ x. let z : ◌≡◌ {A = ℕ} 0 1 = cc in absurd (omega arith)));
-          last = λ x. let z : ◌≡◌ {A = ℕ} 0 1 = cc in absurd (omega arith);
+          beyond = ((λ x. absurd (omega arith)), (λ x. absurd (cc)));
+          last = λ x. absurd (cc);
           word = λ x n. absurd (n refl);
-          untaken = λ x n. let z : ◌≡◌ {A = ℕ} 0 1 = cc in absurd (omega arith);
+          untaken = λ x n. absurd (cc);
         })
     go false b h = of_lines s r k (ltb-false longest_sheet (length s) b) h

@@ -5,17 +5,14 @@ use mathlib.Core.Bool.{Bool, true, false, cond, not, ◌&&◌, ◌||◌}
 use mathlib.Core.List.{List, [], ◌∷◌, ◌++◌}
 use lib.Dec.{eqb, leb, ltb}
 use lib.ListN.{length}
-use Rattle.text.specs.Refusals.{refusal_number, when, first}
+use Rattle.std.specs.Prelude.{Ok, Err}
+use Rattle.text.specs.Refusals.{refusal_number, when, first, judged_of, Judged}
 use Rattle.lay.specs.Bytes.{same}
 use Rattle.text.specs.Blanks.{tab, is_empty}
 use Rattle.text.specs.Parts.{holds}
 use Rattle.text.specs.declared.refusal.Refusal.{Refusal}
 use Rattle.text.specs.declared.refusal.Refusal.TheVariants.{StrayByte, LineTooLong, Misspelt, TextTooLong, FieldEmpty, OtherVersion, NotCarried, OutsideLimit, TooMany, BeyondDeclared, BadSample, Repeated}
-use Rattle.text.specs.declared.refusal.Judged.{Judged}
-use Rattle.text.specs.declared.refusal.Judged.TheVariants.{Passes, Refused}
-use Rattle.spell.specs.Answers.{number_judged}
 use Rattle.spell.specs.Digits.{digits_up_to, number}
-use Rattle.spell.specs.declared.answers.Number.TheVariants.{Value}
 use Rattle.spell.specs.Texts.{version, text_judged, version_judged, empty_judged}
 use Rattle.spell.specs.Truths.{says_true, says_false, truth_judged, truth_or_empty_judged}
 use Rattle.spell.specs.Integers.{most_of_six, highest_label, integer_judged, integer_of, declared_judged, margin_of, label_judged}
@@ -26,7 +23,7 @@ use Rattle.lines.specs.Line.{longest_line, all_clean, raw_hits}
 use Rattle.lines.specs.Order.{hits}
 use Rattle.sample.specs.Clash.{twice}
 use Rattle.lineforms.specs.LineFields.{range_judged}
-use Rattle.lineforms.proofs.Judging.{integer_same}
+use Rattle.spell.proofs.AnswerLaws.{integer_same}
 use Rattle.lineforms.specs.declared.due.Form.{Form}
 use Rattle.lineforms.specs.declared.due.Form.TheVariants.{Stray, Superframe, HeaderWord, HeaderLine, RecordWord, RecordLine, NoneWord, ParameterWord, NameLine, OpeningComponent, ComponentLine, TimeLine, SamplesEnd, SignedLine, RangeLine, SourceLine, LabelLine, SourceEnd, ParameterEnd}
 use Rattle.model.specs.Content.{Sample, Component}
@@ -41,8 +38,8 @@ abbrev pub of_line : Refusal → Bool
 of_line r = leb 2 (refusal_number r) && (leb (refusal_number r) 15 && not (eqb (refusal_number r) 4))
 
 abbrev Fair : Judged → Type 0
-Fair Passes = Unit
-Fair (Refused r) = of_line r ≡ true
+Fair (Ok _) = Unit
+Fair (Err r) = of_line r ≡ true
 
 abbrev AllFair : List Judged → Type 0
 AllFair [] = Unit
@@ -55,8 +52,8 @@ fair_when false r h = tt
 fair_first : (js : List Judged) → AllFair js → Fair (first js)
 unfolding first
 fair_first [] h = tt
-fair_first (Passes ∷ js) h = fair_first js h.1
-fair_first (Refused r ∷ js) h = h.0
+fair_first (Ok _ ∷ js) h = fair_first js h.1
+fair_first (Err r ∷ js) h = h.0
 
 fair_append : (is js : List Judged) → AllFair is → AllFair js → AllFair (is ++ js)
 fair_append [] js h k = k
@@ -99,13 +96,13 @@ declared_fair : (n : ℕ) (f : List ℕ) → Fair (declared_judged n f)
 unfolding declared_judged
 declared_fair n f = fair_first _ (integer_fair 6 1 most_of_six f, (fair_when (ltb n (number 10 f)) BeyondDeclared refl, tt))
 
-margin_fair : (n blank : ℕ) (f : List ℕ) → Fair (number_judged (margin_of n blank f))
+margin_fair : (n blank : ℕ) (f : List ℕ) → Fair (judged_of (margin_of n blank f))
 unfolding margin_of
 margin_fair n blank f = go (is_empty f)
   where
-    go : (t : Bool) → Fair (number_judged (cond t (Value blank) (integer_of 6 0 n f)))
+    go : (t : Bool) → Fair (judged_of (cond t (Ok blank) (integer_of 6 0 n f)))
     go true = tt
-    go false = rw (integer_same 6 0 n f) (integer_fair 6 0 n f)
+    go false = rw (← integer_same 6 0 n f) (integer_fair 6 0 n f)
 
 label_fair : (f : List ℕ) → Fair (label_judged f)
 unfolding label_judged
@@ -145,7 +142,7 @@ source_bits_fair : (f : List ℕ) → Fair (source_bits_judged f)
 unfolding source_bits_judged
 source_bits_fair f = go (is_empty f)
   where
-    go : (t : Bool) → Fair (cond t Passes (first (bits_judged f ∷ when (ltb highest_source_bit (high_bit f)) OutsideLimit ∷ [])))
+    go : (t : Bool) → Fair (cond t (Ok tt) (first (bits_judged f ∷ when (ltb highest_source_bit (high_bit f)) OutsideLimit ∷ [])))
     go true = tt
     go false = fair_first _ (bits_fair f, (fair_when (ltb highest_source_bit (high_bit f)) OutsideLimit refl, tt))
 
@@ -287,5 +284,5 @@ tests_fair ParameterEnd K l = (tt, (tt, (tt, (tt, tt))))
 raw_fair : (l : List ℕ) → AllFair (raw_hits true l)
 raw_fair l = (tt, (fair_when (ltb longest_line (length l)) LineTooLong refl, (fair_when (not (all_clean l)) StrayByte refl, tt)))
 
-pub line_own : (g : Stage) (l : List ℕ) (r : Refusal) → first (tests_in g l) ≡ Refused r → of_line r ≡ true
+pub line_own : (g : Stage) (l : List ℕ) (r : Refusal) → first (tests_in g l) ≡ Err r → of_line r ≡ true
 line_own g l r e = rw e at (fair_first (tests_in g l) (fair_append (raw_hits true l) (hits (tests_of (form_in g l) g.book l)) (raw_fair l) (tests_fair (form_in g l) g.book l)))

@@ -7,7 +7,7 @@ use mathlib.Core.Bool.{Bool, true, false, cond}
 use mathlib.Core.List.{List, [], ◌∷◌, ◌++◌, append_assoc, append-nil}
 use lib.Dec.{eqb}
 use lib.ListN.{length, get_or, length-append}
-use Rattle.text.specs.declared.refusal.Judged.TheVariants as judged
+use Rattle.std.specs.Prelude.{Ok}
 use Rattle.text.specs.Blanks.{trim}
 use Rattle.text.specs.Fields.{field_count}
 use Rattle.text.specs.Keywords.{parameter_word, keyword_of}
@@ -35,11 +35,11 @@ parameter_lines n (line l ls) =
 -- ---- they are those that the judge keeps
 
 is_parameter_lem : (w : Keyword) → is_parameter w ≡ true → w ≡ keyword.Parameter
-is_parameter_lem keyword.Header e = let z : ◌≡◌ {A = ℕ} 0 1 = cc in absurd (omega arith)
-is_parameter_lem keyword.Record e = let z : ◌≡◌ {A = ℕ} 0 1 = cc in absurd (omega arith)
-is_parameter_lem keyword.Nothing e = let z : ◌≡◌ {A = ℕ} 0 1 = cc in absurd (omega arith)
+is_parameter_lem keyword.Header e = absurd (cc)
+is_parameter_lem keyword.Record e = absurd (cc)
+is_parameter_lem keyword.Nothing e = absurd (cc)
 is_parameter_lem keyword.Parameter e = refl
-is_parameter_lem keyword.Other e = let z : ◌≡◌ {A = ℕ} 0 1 = cc in absurd (omega arith)
+is_parameter_lem keyword.Other e = absurd (cc)
 
 kept_here : (g : Stage) (l : List ℕ) → AllPass (tests_in g l) → (k : ℕ) (os ps : List ℕ)
     → opens (form_in g l) k os ++ ps ≡ os ++ cond (is_parameter (keyword_of l)) (k ∷ ps) ps
@@ -128,10 +128,10 @@ open_for ParameterEnd = 1
 
 -- a line that is due has m open before it
 abbrev Fits : ℕ → Form → Type 0
-Fits m f = due_test f ≡ judged.Passes → open_for f ≡ m
+Fits m f = due_test f ≡ Ok tt → open_for f ≡ m
 
 fits_stray : (m : ℕ) → Fits m Stray
-fits_stray m e = let z : ◌≡◌ {A = ℕ} 0 1 = cc in absurd (omega arith)
+fits_stray m e = absurd (cc)
 
 fits_if : (m : ℕ) (t : Bool) (f g : Form) → Fits m f → Fits m g → Fits m (cond t f g)
 fits_if m true f g p q = p
@@ -171,7 +171,7 @@ module _ (l : List ℕ) (k s : ℕ) where
   fits_form due.FirstComponent = fits_count 1 _ _ (λ e. refl)
   fits_form due.NextComponent = fits_either 1 _ _ _ _ (λ e. refl) (λ e. refl)
   fits_form due.AfterSample =
-      fits_if 1 (eqb (field_count l) 2) Superframe _ (λ e. let z : ◌≡◌ {A = ℕ} 0 1 = cc in absurd (omega arith)) (fits_either 1 _ _ _ _ (λ e. refl) (λ e. refl))
+      fits_if 1 (eqb (field_count l) 2) Superframe _ (λ e. absurd (cc)) (fits_either 1 _ _ _ _ (λ e. refl) (λ e. refl))
   fits_form due.SignedLine = fits_count 1 _ _ (λ e. refl)
   fits_form due.RangeLine = fits_count 1 _ _ (λ e. refl)
   fits_form due.SourceLine = fits_count 1 _ _ (λ e. refl)

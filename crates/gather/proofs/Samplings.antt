@@ -7,8 +7,8 @@ use native.Mathlib.Omega.{arith}
 use borrow.Author.Tests.{leb-false, eqb-true, not-false}
 use lib.Dec.{leb}
 use lib.ListN.{length, get_or}
+use Rattle.std.specs.Prelude.{Ok}
 use Rattle.text.specs.Fields.{field_of}
-use Rattle.text.specs.declared.refusal.Judged.TheVariants.{Passes}
 use Rattle.spell.specs.Integers.{declared_judged}
 use Rattle.spell.specs.BitRanges.{component_bits_judged}
 use Rattle.written.proofs.Tests.{neither}
@@ -35,10 +35,10 @@ use Rattle.gather.proofs.Headings.{passed}
 -- ---- a component
 
 module _ (K : Book) (l : List ℕ) (g : Ground K.declared (subs_of K)) where
-  pub part_law : declared_judged K.declared (field_of 0 l) ≡ Passes
-      → declared_judged (declared_for (words_of K.pairs) (subframe_in l)) (field_of 1 l) ≡ Passes
-      → component_bits_judged (declared_for (bits_of K.pairs) (subframe_in l)) (field_of 3 l) ≡ Passes
-      → joined_test K.parts (component_of l) ≡ Passes
+  pub part_law : declared_judged K.declared (field_of 0 l) ≡ Ok tt
+      → declared_judged (declared_for (words_of K.pairs) (subframe_in l)) (field_of 1 l) ≡ Ok tt
+      → component_bits_judged (declared_for (bits_of K.pairs) (subframe_in l)) (field_of 3 l) ≡ Ok tt
+      → joined_test K.parts (component_of l) ≡ Ok tt
       → ComponentLaw (subs_of K) (component_of l)
   part_law p q r j =
       let s = declared_amount (field_of 0 l) K.declared p in
@@ -58,7 +58,7 @@ module _ (K : Book) (l : List ℕ) (g : Ground K.declared (subs_of K)) where
       }
 
 -- 12
-sample_room : (K : Book) → room_for_sample K ≡ Passes
+sample_room : (K : Book) → room_for_sample K ≡ Ok tt
     → (length K.opened.samples < sheet_limits.samples_each) × (samples_so_far K < sheet_limits.samples) × (components_so_far K < sheet_limits.components)
 unfolding room_for_sample
 sample_room K e =
@@ -72,7 +72,7 @@ sample_room K e =
       leb-false sheet_limits.components (components_so_far K) v.1,
     )
 
-component_room : (K : Book) → room_for_component K ≡ Passes
+component_room : (K : Book) → room_for_component K ≡ Ok tt
     → (length K.parts < sheet_limits.components_each) × (components_so_far K < sheet_limits.components)
 unfolding room_for_component
 component_room K e =
@@ -83,7 +83,7 @@ component_room K e =
 module _ (K : Book) (c : Component) (o : Opened K) (each : Each (ComponentLaw (subs_of K)) no_component K.parts) (next : Followed K.parts) where
   part_more : length K.parts < sheet_limits.components_each → length K.opened.samples < sheet_limits.samples_each
       → samples_so_far K < sheet_limits.samples → components_so_far K < sheet_limits.components
-      → ComponentLaw (subs_of K) c → joined_test K.parts c ≡ Passes → Joined (parting K (K.parts ++ (c ∷ [])))
+      → ComponentLaw (subs_of K) c → joined_test K.parts c ≡ Ok tt → Joined (parting K (K.parts ++ (c ∷ [])))
   part_more few a b d law j =
       let n = length_more K.parts c in
       let w = joined_passed K.parts c j in
@@ -113,7 +113,7 @@ module _ (K : Book) (c : Component) (o : Opened K) (each : Each (ComponentLaw (s
       }
 
 module _ (K : Book) (l : List ℕ) where
-  pub opens_sample : Closed K → line_judged true l (tests_of form.OpeningComponent K l) ≡ Passes → Joined (grow form.OpeningComponent l K)
+  pub opens_sample : Closed K → line_judged true l (tests_of form.OpeningComponent K l) ≡ Ok tt → Joined (grow form.OpeningComponent l K)
   opens_sample h e =
       let q = passed form.OpeningComponent K l e in
       let o = h.opened in
@@ -123,7 +123,7 @@ module _ (K : Book) (l : List ℕ) where
       (part_law K l o.ground (q 5) (q 6) (q 8) (q 9))
       (q 9)
 
-  pub parts_sample : Joined K → line_judged true l (tests_of form.ComponentLine K l) ≡ Passes → Joined (grow form.ComponentLine l K)
+  pub parts_sample : Joined K → line_judged true l (tests_of form.ComponentLine K l) ≡ Ok tt → Joined (grow form.ComponentLine l K)
   parts_sample h e =
       let q = passed form.ComponentLine K l e in
       let o = h.opened in
@@ -172,7 +172,7 @@ module _ (K : Book) (l : List ℕ) where
         once = spots_twice (subs_of K) (λ i m. (g.each i m).few_words) timed p.each ∙ p.once;
       }
 
-  pub times_sample : Joined K → line_judged true l (tests_of form.TimeLine K l) ≡ Passes → Filled (grow form.TimeLine l K)
+  pub times_sample : Joined K → line_judged true l (tests_of form.TimeLine K l) ≡ Ok tt → Filled (grow form.TimeLine l K)
   times_sample h e =
       let q = passed form.TimeLine K l e in
       let o = h.opened in

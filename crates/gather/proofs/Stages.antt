@@ -6,11 +6,10 @@ use mathlib.Core.Path.{◌≡◌, refl}
 use mathlib.Core.Bool.{Bool, true, false}
 use mathlib.Core.List.{List, [], ◌∷◌, ◌++◌}
 use lib.ListN.{get_or}
-use Rattle.text.specs.Refusals.{first}
+use Rattle.std.specs.Prelude.{Ok, Err}
+use Rattle.text.specs.Refusals.{first, Judged}
 use Rattle.text.specs.declared.refusal.Refusal.{Refusal}
 use Rattle.text.specs.declared.refusal.Refusal.TheVariants.{Unended}
-use Rattle.text.specs.declared.refusal.Judged.{Judged}
-use Rattle.text.specs.declared.refusal.Judged.TheVariants as judged
 use Rattle.lines.specs.Line.{raw_hits}
 use Rattle.lines.specs.Lines.{Lines, none, unended, line}
 use Rattle.lines.specs.Order.{hits, line_judged}
@@ -85,7 +84,7 @@ tests_at i g ls = tests_in (reached i g ls) (line_of i ls)
 
 -- none of them hits
 abbrev pub AllPass : List Judged → Type 0
-AllPass js = (j : ℕ) → get_or js j judged.Passes ≡ judged.Passes
+AllPass js = (j : ℕ) → get_or js j (Ok tt) ≡ Ok tt
 
 -- the lines of the `PARAMETER:` words, after n lines and the words at os
 abbrev pub opened : Stage → ℕ → List ℕ → Lines → List ℕ
@@ -104,7 +103,7 @@ unended_run d K os k l = refl
 -- where the lines end
 pub data Course (g : Stage) (n : ℕ) (os : List ℕ) (ls : Lines) : Ruling → Type 0 where
   stops : (i : ℕ) → i < lines ls → ((j : ℕ) → j < i → AllPass (tests_at j g ls)) → (r : Refusal)
-      → first (tests_at i g ls) ≡ judged.Refused r → Course g n os ls (Refused r (n + i + 1))
+      → first (tests_at i g ls) ≡ Err r → Course g n os ls (Refused r (n + i + 1))
   breaks : whole ls ≡ false → ((j : ℕ) → j < lines ls → AllPass (tests_at j g ls)) → Course g n os ls (Refused Unended (n + lines ls + 1))
   ends : whole ls ≡ true → ((j : ℕ) → j < lines ls → AllPass (tests_at j g ls))
       → Course g n os ls (at_end (reached (lines ls) g ls).due (reached (lines ls) g ls).book (opened g n os ls) (n + lines ls + 1))
@@ -115,12 +114,12 @@ course g n os none = let e : n + 1 ≡ n + 0 + 1 = omega arith in rw e (ends ref
 course g n os (unended l) = let e : n + 1 ≡ n + 0 + 1 = omega arith in rw e (breaks refl (λ j h. absurd (omega arith)))
 course g n os (line l ls) = go (first (tests_in g l)) refl (course (next g l) (n + 1) (opens (form_in g l) (n + 1) os) ls)
   where
-    more : first (tests_in g l) ≡ judged.Passes → (m : ℕ) → ((j : ℕ) → j < m → AllPass (tests_at j (next g l) ls))
+    more : first (tests_in g l) ≡ Ok tt → (m : ℕ) → ((j : ℕ) → j < m → AllPass (tests_at j (next g l) ls))
         → (j : ℕ) → j < suc m → AllPass (tests_at j g (line l ls))
     more p m a zero h = first_none (tests_in g l) p
     more p m a (suc j) h = a j (omega arith)
 
-    later : first (tests_in g l) ≡ judged.Passes → {v : Ruling} → Course (next g l) (n + 1) (opens (form_in g l) (n + 1) os) ls v → Course g n os (line l ls) v
+    later : first (tests_in g l) ≡ Ok tt → {v : Ruling} → Course (next g l) (n + 1) (opens (form_in g l) (n + 1) os) ls v → Course g n os (line l ls) v
     later p (stops i h a r e) =
         let k : n + 1 + i + 1 ≡ n + suc i + 1 = omega arith in
         rw k (stops (suc i) (omega arith) (more p i a) r e)
@@ -132,7 +131,7 @@ course g n os (line l ls) = go (first (tests_in g l)) refl (course (next g l) (n
         rw k (ends w (more p (lines ls) a))
 
     go : (v : Judged) → first (tests_in g l) ≡ v → {w : Ruling} → Course (next g l) (n + 1) (opens (form_in g l) (n + 1) os) ls w → Course g n os (line l ls) (on_judged v (n + 1) w)
-    go judged.Passes p c = later p c
-    go (judged.Refused q) p c =
+    go (Ok _) p c = later p c
+    go (Err q) p c =
         let k : n + 1 ≡ n + 0 + 1 = omega arith in
         rw k (stops 0 (omega arith) (λ j h. absurd (omega arith)) q p)

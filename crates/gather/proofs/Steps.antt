@@ -3,9 +3,7 @@ use mathlib.Core.Path.{◌≡◌}
 use mathlib.Core.Bool.{true}
 use mathlib.Core.List.{List}
 use Prim.Native.Nat.{ℕ}
-use native.Mathlib.Omega.{arith}
-use Rattle.text.specs.declared.refusal.Judged.TheVariants.{Passes, Refused}
-use Rattle.text.specs.declared.refusal.Refusal.{Refusal}
+use Rattle.std.specs.Prelude.{Ok}
 use Rattle.lines.specs.Order.{line_judged}
 use Rattle.lineforms.specs.Forms.{due_after}
 use Rattle.lineforms.specs.declared.due.Due.{Due}
@@ -20,12 +18,9 @@ use Rattle.gather.proofs.Headings.{passed, heads, records, opens_parameter, name
 use Rattle.gather.proofs.Samplings.{opens_sample, parts_sample, times_sample}
 use Rattle.gather.proofs.Endings.{signs, ranges, ends_parameter}
 
-refused_passes : (r : Refusal) → Refused r ≡ Passes → ⊥
-refused_passes r e = let z : ◌≡◌ {A = ℕ} 0 1 = cc in omega arith
-
-told_step : (f : Form) (K : Book) (l : List ℕ) → Told f K → line_judged true l (tests_of f K l) ≡ Passes → Sound (due_after f) (grow f l K)
-told_step form.Stray K l h e = absurd (refused_passes _ (passed form.Stray K l e 3))
-told_step form.Superframe K l h e = absurd (refused_passes _ (passed form.Superframe K l e 3))
+told_step : (f : Form) (K : Book) (l : List ℕ) → Told f K → line_judged true l (tests_of f K l) ≡ Ok tt → Sound (due_after f) (grow f l K)
+told_step form.Stray K l h e = absurd (cc (passed form.Stray K l e 3))
+told_step form.Superframe K l h e = absurd (cc (passed form.Superframe K l e 3))
 told_step form.HeaderWord K l h e = h
 told_step form.HeaderLine K l h e = heads K l h e
 told_step form.RecordWord K l h e = h
@@ -44,5 +39,5 @@ told_step form.LabelLine K l h e = h
 told_step form.SourceEnd K l h e = h
 told_step form.ParameterEnd K l h e = ends_parameter K l h
 
-pub sound_step : (d : Due) (K : Book) (l : List ℕ) → Sound d K → line_judged true l (tests_of (form_at d K l) K l) ≡ Passes → Sound (due_after (form_at d K l)) (grow (form_at d K l) l K)
+pub sound_step : (d : Due) (K : Book) (l : List ℕ) → Sound d K → line_judged true l (tests_of (form_at d K l) K l) ≡ Ok tt → Sound (due_after (form_at d K l)) (grow (form_at d K l) l K)
 sound_step d K l h e = told_step (form_at d K l) K l (told K l d h) e

@@ -9,12 +9,12 @@ use borrow.Author.Tests.{eqb-true}
 use lib.Dec.{eqb}
 use lib.ListN.{length}
 use lib.Seq.{take_all}
+use Rattle.std.specs.Prelude.{Err}
 use Rattle.lay.specs.Bytes.{same}
 use Rattle.lay.proofs.Bytes.{same_eq}
 use Rattle.lay.proofs.Tests.{or_either}
 use Rattle.text.specs.Refusals.{first}
 use Rattle.text.specs.declared.refusal.Refusal.TheVariants.{Misspelt}
-use Rattle.text.specs.declared.refusal.Judged.TheVariants as judged
 use Rattle.text.specs.Blanks.{is_blank, trim_start, before, trim_end, trim}
 use Rattle.text.specs.Parts.{index_of, count_of, holds, up_to, past}
 use Rattle.text.specs.Fields.{comma, blank_line, field_count, piece_of, field_of}
@@ -89,11 +89,11 @@ keyword_trim l e = go (same (trim l) header_word) (same (trim l) record_word) (s
     go : (a b c d : Bool) → same (trim l) parameter_word ≡ d
         → cond a keyword.Header (cond b keyword.Record (cond c keyword.Nothing (cond d keyword.Parameter keyword.Other))) ≡ keyword.Parameter
         → trim l ≡ parameter_word
-    go true b c d p h = let z : ◌≡◌ {A = ℕ} 0 1 = cc in absurd (omega arith)
-    go false true c d p h = let z : ◌≡◌ {A = ℕ} 0 1 = cc in absurd (omega arith)
-    go false false true d p h = let z : ◌≡◌ {A = ℕ} 0 1 = cc in absurd (omega arith)
+    go true b c d p h = absurd (cc)
+    go false true c d p h = absurd (cc)
+    go false false true d p h = absurd (cc)
     go false false false true p h = same_eq (trim l) parameter_word p
-    go false false false false p h = let z : ◌≡◌ {A = ℕ} 0 1 = cc in absurd (omega arith)
+    go false false false false p h = absurd (cc)
 
 module _ (l : List ℕ) (e : keyword_of l ≡ keyword.Parameter) where
   no_commas : count_of comma l ≡ 0
@@ -108,7 +108,7 @@ module _ (l : List ℕ) (e : keyword_of l ≡ keyword.Parameter) where
   unfolding field_of piece_of
   whole_field = rw (up_to_none comma l no_commas) (keyword_trim l e)
 
-  no_time : decimal_judged 3 (field_of 0 l) ≡ judged.Refused Misspelt
+  no_time : decimal_judged 3 (field_of 0 l) ≡ Err Misspelt
   unfolding decimal_judged is_marked digits_up_to all_digits up_to index_of holds past first
   no_time = rw whole_field
 
@@ -151,8 +151,8 @@ word_opens g l e h = go (worded l e (length g.book.pairs) g.book.declared g.due)
   where
     go : {f : Form} → Worded f → form_in g l ≡ f → f ≡ ParameterWord
     go opening p = refl
-    go stray p = let z = rw p at (h 3) in let o : ◌≡◌ {A = ℕ} 0 1 = cc in absurd (omega arith)
-    go time p = let z = sym (no_time l e) ∙ (rw p at (h 5)) in let o : ◌≡◌ {A = ℕ} 0 1 = cc in absurd (omega arith)
+    go stray p = let z = rw p at (h 3) in absurd (cc)
+    go time p = let z = sym (no_time l e) ∙ (rw p at (h 5)) in absurd (cc)
 
 -- ---- what other lines are
 
@@ -175,7 +175,7 @@ plain_word : (w : Keyword) → is_parameter w ≡ false → (h r n p : Form) →
 plain_word keyword.Header e h r n p a b c = a
 plain_word keyword.Record e h r n p a b c = b
 plain_word keyword.Nothing e h r n p a b c = c
-plain_word keyword.Parameter e h r n p a b c = let z : ◌≡◌ {A = ℕ} 0 1 = cc in absurd (omega arith)
+plain_word keyword.Parameter e h r n p a b c = absurd (cc)
 plain_word keyword.Other e h r n p a b c = λ k os. refl
 
 module _ (l : List ℕ) (e : is_parameter (keyword_of l) ≡ false) (k s : ℕ) where

@@ -1,10 +1,9 @@
 -- The judge: "Lines are judged from the top."
-use Rattle.std.specs.Prelude.{ℕ, ◌+◌, true, false, cond, not, List, [], ◌∷◌, ◌++◌, eqb, ltb, length, get_or}
+use Rattle.std.specs.Prelude.{ℕ, ◌+◌, true, false, cond, not, List, [], ◌∷◌, ◌++◌, eqb, ltb, length, get_or, Ok, Err}
 use Rattle.lay.specs.Below.{all, find}
+use Rattle.text.specs.Refusals.{Judged}
 use Rattle.text.specs.declared.refusal.Refusal.{Refusal}
 use Rattle.text.specs.declared.refusal.Refusal.TheVariants.{SheetTooLong, Unended, BadIdentifiers}
-use Rattle.text.specs.declared.refusal.Judged.{Judged}
-use Rattle.text.specs.declared.refusal.Judged.TheVariants as judged
 use Rattle.lines.specs.Lines.{Lines, none, unended, line, lines_of}
 use Rattle.lines.specs.Order.{line_judged}
 use Rattle.lineforms.specs.Forms.{form_of, due_after}
@@ -83,8 +82,8 @@ opens form.SourceEnd k os = os
 opens form.ParameterEnd k os = os
 
 abbrev pub on_judged : Judged → ℕ → Ruling → Ruling
-on_judged judged.Passes k r = r
-on_judged (judged.Refused q) k r = Refused q k
+on_judged (Ok _) k r = r
+on_judged (Err q) k r = Refused q k
 
 -- the lines from the top, k of them behind. A last line that lacks its end byte is judged by the same list, and 4 stands
 -- first in it: what would follow never counts

@@ -1,11 +1,9 @@
 -- The tests of a line, by what it turned out to be: 5 and 10, 12, the fields, 14, 15. Their order is lines' line_judged.
-use Rattle.std.specs.Prelude.{ℕ, ◌+◌, ◌-◌, ◌*◌, Bool, true, false, not, ◌&&◌, ◌||◌, List, [], ◌∷◌, ◌++◌, eqb, leb, ltb, length}
+use Rattle.std.specs.Prelude.{ℕ, ◌+◌, ◌-◌, ◌*◌, Bool, true, false, not, ◌&&◌, ◌||◌, List, [], ◌∷◌, ◌++◌, eqb, leb, ltb, length, Ok, Err}
 use Rattle.sample.specs.declared.component.Component.{Component as Piece}
 use Rattle.sample.specs.Clash.{twice}
-use Rattle.text.specs.Refusals.{when}
+use Rattle.text.specs.Refusals.{when, Judged}
 use Rattle.text.specs.declared.refusal.Refusal.TheVariants.{NotDue, NotCarried, TooMany, BadSample, Repeated}
-use Rattle.text.specs.declared.refusal.Judged.{Judged}
-use Rattle.text.specs.declared.refusal.Judged.TheVariants.{Passes, Refused}
 use Rattle.lines.specs.Order.{Tests}
 use Rattle.lineforms.specs.LineFields.{header_fields, record_fields, name_fields, component_fields, time_fields, signed_fields, range_fields, source_fields, label_fields}
 use Rattle.lineforms.specs.declared.due.Form.{Form}
@@ -19,25 +17,25 @@ use Rattle.gather.specs.Book.{Book, component_of, named_of, samples_so_far, comp
 -- 5, "not the keyword, field count or blank line due here, or a line after the end"; "(a two-field line here is a superframe
 -- line: 10)"
 abbrev pub due_test : Form → Judged
-due_test Stray = Refused NotDue
-due_test Superframe = Refused NotCarried
-due_test HeaderWord = Passes
-due_test HeaderLine = Passes
-due_test RecordWord = Passes
-due_test RecordLine = Passes
-due_test NoneWord = Passes
-due_test ParameterWord = Passes
-due_test NameLine = Passes
-due_test OpeningComponent = Passes
-due_test ComponentLine = Passes
-due_test TimeLine = Passes
-due_test SamplesEnd = Passes
-due_test SignedLine = Passes
-due_test RangeLine = Passes
-due_test SourceLine = Passes
-due_test LabelLine = Passes
-due_test SourceEnd = Passes
-due_test ParameterEnd = Passes
+due_test Stray = Err NotDue
+due_test Superframe = Err NotCarried
+due_test HeaderWord = Ok tt
+due_test HeaderLine = Ok tt
+due_test RecordWord = Ok tt
+due_test RecordLine = Ok tt
+due_test NoneWord = Ok tt
+due_test ParameterWord = Ok tt
+due_test NameLine = Ok tt
+due_test OpeningComponent = Ok tt
+due_test ComponentLine = Ok tt
+due_test TimeLine = Ok tt
+due_test SamplesEnd = Ok tt
+due_test SignedLine = Ok tt
+due_test RangeLine = Ok tt
+due_test SourceLine = Ok tt
+due_test LabelLine = Ok tt
+due_test SourceEnd = Ok tt
+due_test ParameterEnd = Ok tt
 
 -- 12, "one item more than a count limit", "on the line that opens the item too many": "512 parameters; 64 samples each,
 -- 4,096 in all; 8 components a sample, 4,096 in all"
@@ -56,25 +54,25 @@ room_for_component K =
     when (leb sheet_limits.components_each (length K.parts) || leb sheet_limits.components (components_so_far K)) TooMany
 
 abbrev pub room_test : Form → Book → Judged
-room_test Stray K = Passes
-room_test Superframe K = Passes
-room_test HeaderWord K = Passes
-room_test HeaderLine K = Passes
-room_test RecordWord K = Passes
-room_test RecordLine K = Passes
-room_test NoneWord K = Passes
+room_test Stray K = Ok tt
+room_test Superframe K = Ok tt
+room_test HeaderWord K = Ok tt
+room_test HeaderLine K = Ok tt
+room_test RecordWord K = Ok tt
+room_test RecordLine K = Ok tt
+room_test NoneWord K = Ok tt
 room_test ParameterWord K = room_for_parameter K
-room_test NameLine K = Passes
+room_test NameLine K = Ok tt
 room_test OpeningComponent K = room_for_sample K
 room_test ComponentLine K = room_for_component K
-room_test TimeLine K = Passes
-room_test SamplesEnd K = Passes
-room_test SignedLine K = Passes
-room_test RangeLine K = Passes
-room_test SourceLine K = Passes
-room_test LabelLine K = Passes
-room_test SourceEnd K = Passes
-room_test ParameterEnd K = Passes
+room_test TimeLine K = Ok tt
+room_test SamplesEnd K = Ok tt
+room_test SignedLine K = Ok tt
+room_test RangeLine K = Ok tt
+room_test SourceLine K = Ok tt
+room_test LabelLine K = Ok tt
+room_test SourceEnd K = Ok tt
+room_test ParameterEnd K = Ok tt
 
 -- the fields, left to right
 abbrev pub field_tests : Form → Book → List ℕ → List Judged
@@ -139,25 +137,25 @@ unfoldable pub width_test : List Sample → List Component → Judged
 width_test ss cs = when (not (eqb (last_overlap cs) 0) || (ltb (given cs) 1 || unlike_first ss cs)) BadSample
 
 abbrev pub sample_test : Form → Book → List ℕ → Judged
-sample_test Stray K l = Passes
-sample_test Superframe K l = Passes
-sample_test HeaderWord K l = Passes
-sample_test HeaderLine K l = Passes
-sample_test RecordWord K l = Passes
-sample_test RecordLine K l = Passes
-sample_test NoneWord K l = Passes
-sample_test ParameterWord K l = Passes
-sample_test NameLine K l = Passes
+sample_test Stray K l = Ok tt
+sample_test Superframe K l = Ok tt
+sample_test HeaderWord K l = Ok tt
+sample_test HeaderLine K l = Ok tt
+sample_test RecordWord K l = Ok tt
+sample_test RecordLine K l = Ok tt
+sample_test NoneWord K l = Ok tt
+sample_test ParameterWord K l = Ok tt
+sample_test NameLine K l = Ok tt
 sample_test OpeningComponent K l = joined_test K.parts (component_of l)
 sample_test ComponentLine K l = joined_test K.parts (component_of l)
 sample_test TimeLine K l = width_test K.opened.samples K.parts
-sample_test SamplesEnd K l = Passes
-sample_test SignedLine K l = Passes
-sample_test RangeLine K l = Passes
-sample_test SourceLine K l = Passes
-sample_test LabelLine K l = Passes
-sample_test SourceEnd K l = Passes
-sample_test ParameterEnd K l = Passes
+sample_test SamplesEnd K l = Ok tt
+sample_test SignedLine K l = Ok tt
+sample_test RangeLine K l = Ok tt
+sample_test SourceLine K l = Ok tt
+sample_test LabelLine K l = Ok tt
+sample_test SourceEnd K l = Ok tt
+sample_test ParameterEnd K l = Ok tt
 
 -- 15, "name, or non-empty mnemonic or identification, equal to an earlier parameter's same field"
 unfoldable pub apart_from : List Parameter → Parameter → Bool
@@ -165,25 +163,25 @@ apart_from [] q = true
 apart_from (p ∷ ps) q = named_apart p q && apart_from ps q
 
 abbrev pub names_test : Form → Book → List ℕ → Judged
-names_test Stray K l = Passes
-names_test Superframe K l = Passes
-names_test HeaderWord K l = Passes
-names_test HeaderLine K l = Passes
-names_test RecordWord K l = Passes
-names_test RecordLine K l = Passes
-names_test NoneWord K l = Passes
-names_test ParameterWord K l = Passes
+names_test Stray K l = Ok tt
+names_test Superframe K l = Ok tt
+names_test HeaderWord K l = Ok tt
+names_test HeaderLine K l = Ok tt
+names_test RecordWord K l = Ok tt
+names_test RecordLine K l = Ok tt
+names_test NoneWord K l = Ok tt
+names_test ParameterWord K l = Ok tt
 names_test NameLine K l = when (not (apart_from K.parameters (named_of l))) Repeated
-names_test OpeningComponent K l = Passes
-names_test ComponentLine K l = Passes
-names_test TimeLine K l = Passes
-names_test SamplesEnd K l = Passes
-names_test SignedLine K l = Passes
-names_test RangeLine K l = Passes
-names_test SourceLine K l = Passes
-names_test LabelLine K l = Passes
-names_test SourceEnd K l = Passes
-names_test ParameterEnd K l = Passes
+names_test OpeningComponent K l = Ok tt
+names_test ComponentLine K l = Ok tt
+names_test TimeLine K l = Ok tt
+names_test SamplesEnd K l = Ok tt
+names_test SignedLine K l = Ok tt
+names_test RangeLine K l = Ok tt
+names_test SourceLine K l = Ok tt
+names_test LabelLine K l = Ok tt
+names_test SourceEnd K l = Ok tt
+names_test ParameterEnd K l = Ok tt
 
 abbrev pub tests_of : Form → Book → List ℕ → Tests
 tests_of f K l =

@@ -7,13 +7,13 @@ use Prim.Native.Nat.{ℕ, ◌+◌}
 use borrow.Author.Tests.{eqb-true, ltb-false}
 use lib.Dec.{eqb, ltb}
 use lib.ListN.{length}
+use Rattle.std.specs.Prelude.{Ok, Err}
+use Rattle.text.specs.Refusals.{Judged}
 use Rattle.text.specs.Fields.{field_count}
 use Rattle.text.specs.Keywords.{header_word, keyword_of}
 use Rattle.text.specs.declared.keyword.Keyword.{Keyword}
 use Rattle.text.specs.declared.keyword.Keyword.TheVariants as keyword
 use Rattle.text.specs.declared.refusal.Refusal.TheVariants.{SheetTooLong, Unended}
-use Rattle.text.specs.declared.refusal.Judged.{Judged}
-use Rattle.text.specs.declared.refusal.Judged.TheVariants as judged
 use Rattle.lines.specs.Lines.{Lines, none, unended, line, lines_of}
 use Rattle.lines.specs.Order.{line_judged}
 use Rattle.lineforms.specs.Forms.{by_keyword, word_form, count_form, either_form, opening_form, after_sample_form, form_of, due_after}
@@ -153,12 +153,12 @@ run_said d K os k (line l ls) c h e x q =
         → (Sound (due_after (form_at d K l)) (grow (form_at d K l) l K) → run (due_after (form_at d K l)) (grow (form_at d K l) l K) (opens (form_at d K l) (k + 1) os) (k + 1) ls ≡ Accepted c → (y : List ℕ) → lines_of y ≡ ls → Said (due_after (form_at d K l)) (grow (form_at d K l) l K) c y)
         → on_judged j (k + 1) (run (due_after (form_at d K l)) (grow (form_at d K l) l K) (opens (form_at d K l) (k + 1) os) (k + 1) ls) ≡ Accepted c
         → Said d K c x
-    go judged.Passes p ih r =
+    go (Ok _) p ih r =
         let u = lines_line x l ls q in
         let s = ih (sound_step d K l h p) r u.rest (sym u.left) in
         let t = tells K l c s.lines d h (passed (form_at d K l) K l p) s.left in
         record { lines = t.items ∷ s.lines; written = (l, u.rest, u.written, t.line, s.written); left = t.left }
-    go (judged.Refused r) p ih s = never r (k + 1) c s
+    go (Err r) p ih s = never r (k + 1) c s
 
 -- ---- the sheet
 

@@ -5,9 +5,9 @@ use mathlib.Core.Bool.{Bool, true, cond}
 use mathlib.Core.List.{List}
 use Prim.Native.Nat.{ℕ, ◌≤◌}
 use native.Mathlib.Omega.{arith}
+use Rattle.std.specs.Prelude.{Ok}
 use Rattle.text.specs.Fields.{field_of, field_count}
 use Rattle.text.specs.Refusals.{first}
-use Rattle.text.specs.declared.refusal.Judged.TheVariants.{Passes}
 use Rattle.written.proofs.Passing.{all_first}
 use Rattle.lines.specs.Line.{all_clean}
 use Rattle.lines.proofs.Orders.{first_none}
@@ -24,7 +24,7 @@ use Rattle.grammar.proofs.MeasureSpellings.{delay_spelled, delay_taken, bits_or_
 
 -- ---- the 5-field line
 
-pub signed_told : (l : List ℕ) → all_clean l ≡ true → field_count l ≡ 5 → first (signed_fields l) ≡ Passes → Fields l (signed_line (signed_in l))
+pub signed_told : (l : List ℕ) → all_clean l ≡ true → field_count l ≡ 5 → first (signed_fields l) ≡ Ok tt → Fields l (signed_line (signed_in l))
 signed_told l c n e =
     let q = first_none (signed_fields l) e in
     all_fields l (signed_line (signed_in l)) (omega arith) n
@@ -37,7 +37,7 @@ signed_told l c n e =
 
 pub record SignedRead (l : List ℕ) (t : Bool) : Type 0 where
   pub count : field_count l ≡ 5
-  pub pass : first (signed_fields l) ≡ Passes
+  pub pass : first (signed_fields l) ≡ Ok tt
   pub says : signed_in l ≡ t
 
 pub signed_read : (l : List ℕ) (t : Bool) → Fields l (signed_line t) → SignedRead l t
@@ -59,7 +59,7 @@ signed_read l t w =
 
 -- ---- the 4-field line
 
-pub range_told : (i : Bool) (l : List ℕ) → all_clean l ≡ true → field_count l ≡ 4 → first (range_fields i l) ≡ Passes → Fields l (range_line i (cond i (value_in l) 0))
+pub range_told : (i : Bool) (l : List ℕ) → all_clean l ≡ true → field_count l ≡ 4 → first (range_fields i l) ≡ Ok tt → Fields l (range_line i (cond i (value_in l) 0))
 range_told i l c n e =
     let q = first_none (range_fields i l) e in
     all_fields l (range_line i (cond i (value_in l) 0)) (omega arith) n
@@ -71,7 +71,7 @@ range_told i l c n e =
 
 pub record RangeRead (i : Bool) (l : List ℕ) (v : ℕ) : Type 0 where
   pub count : field_count l ≡ 4
-  pub pass : first (range_fields i l) ≡ Passes
+  pub pass : first (range_fields i l) ≡ Ok tt
   pub says : i ≡ true → value_in l ≡ v
 
 pub range_read : (i : Bool) (l : List ℕ) (v : ℕ) → v ≤ sheet_limits.value → Fields l (range_line i v) → RangeRead i l v
@@ -92,7 +92,7 @@ range_read i l v b w =
 
 -- ---- a source
 
-pub source_told : (l : List ℕ) → all_clean l ≡ true → field_count l ≡ 3 → first (source_fields l) ≡ Passes → Fields l source_line
+pub source_told : (l : List ℕ) → all_clean l ≡ true → field_count l ≡ 3 → first (source_fields l) ≡ Ok tt → Fields l source_line
 source_told l c n e =
     let q = first_none (source_fields l) e in
     all_fields l source_line (omega arith) n
@@ -103,7 +103,7 @@ source_told l c n e =
 
 pub record SourceRead (l : List ℕ) : Type 0 where
   pub count : field_count l ≡ 3
-  pub pass : first (source_fields l) ≡ Passes
+  pub pass : first (source_fields l) ≡ Ok tt
 
 pub source_read : (l : List ℕ) → Fields l source_line → SourceRead l
 source_read l w =
@@ -120,7 +120,7 @@ source_read l w =
 
 -- and its label
 
-pub label_told : (l : List ℕ) → all_clean l ≡ true → field_count l ≡ 4 → first (label_fields l) ≡ Passes → Fields l label_line
+pub label_told : (l : List ℕ) → all_clean l ≡ true → field_count l ≡ 4 → first (label_fields l) ≡ Ok tt → Fields l label_line
 label_told l c n e =
     let q = first_none (label_fields l) e in
     all_fields l label_line (omega arith) n
@@ -132,7 +132,7 @@ label_told l c n e =
 
 pub record LabelRead (l : List ℕ) : Type 0 where
   pub count : field_count l ≡ 4
-  pub pass : first (label_fields l) ≡ Passes
+  pub pass : first (label_fields l) ≡ Ok tt
 
 pub label_read : (l : List ℕ) → Fields l label_line → LabelRead l
 label_read l w =

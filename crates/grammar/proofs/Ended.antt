@@ -1,5 +1,4 @@
 -- Lines with their end bytes are the lines that a sheet is cut into. Assumes nothing.
-use native.Mathlib.Omega.{arith}
 use mathlib.Core.Path.{◌≡◌, refl, ap}
 use mathlib.Core.Bool.{Bool, true, false, cond}
 use mathlib.Core.List.{List, [], ◌∷◌, ◌++◌}
@@ -26,10 +25,10 @@ lines_none [] h = refl
 lines_none (b ∷ x) h = absurd (go (eqb b end_byte) (lines_of x) h)
   where
     go : (t : Bool) (ls : Lines) → cond t (line [] ls) (push b ls) ≡ none → ⊥
-    go true ls e = let z : ◌≡◌ {A = ℕ} 0 1 = cc in omega arith
-    go false none e = let z : ◌≡◌ {A = ℕ} 0 1 = cc in omega arith
-    go false (unended l) e = let z : ◌≡◌ {A = ℕ} 0 1 = cc in omega arith
-    go false (line l ls) e = let z : ◌≡◌ {A = ℕ} 0 1 = cc in omega arith
+    go true ls e = cc
+    go false none e = cc
+    go false (unended l) e = cc
+    go false (line l ls) e = cc
 
 -- a first line, and the bytes past its end byte
 pub record Cut (x l : List ℕ) (ls : Lines) : Type 0 where
@@ -39,7 +38,7 @@ pub record Cut (x l : List ℕ) (ls : Lines) : Type 0 where
 
 pub lines_line : (x l : List ℕ) (ls : Lines) → lines_of x ≡ line l ls → Cut x l ls
 unfolding lines_of
-lines_line [] l ls h = let z : ◌≡◌ {A = ℕ} 0 1 = cc in absurd (omega arith)
+lines_line [] l ls h = absurd (cc)
 lines_line (b ∷ x) l ls h = go (lines_line x) (eqb b end_byte) refl (lines_of x) refl h
   where
     go : ((k : List ℕ) (ks : Lines) → lines_of x ≡ line k ks → Cut x k ks) → (t : Bool) → eqb b end_byte ≡ t
@@ -49,8 +48,8 @@ lines_line (b ∷ x) l ls h = go (lines_line x) (eqb b end_byte) refl (lines_of 
         let m : l ≡ [] = cc in
         let n : ls ≡ ms = cc in
         record { rest = x; written = cc; left = cc }
-    go ih false e none p q = let z : ◌≡◌ {A = ℕ} 0 1 = cc in absurd (omega arith)
-    go ih false e (unended k) p q = let z : ◌≡◌ {A = ℕ} 0 1 = cc in absurd (omega arith)
+    go ih false e none p q = absurd (cc)
+    go ih false e (unended k) p q = absurd (cc)
     go ih false e (line k ks) p q =
         let c = ih k ks p in
         let m : l ≡ b ∷ k = cc in

@@ -5,9 +5,9 @@ use mathlib.Core.Bool.{Bool, true}
 use mathlib.Core.List.{List}
 use Prim.Native.Nat.{ℕ, ◌≤◌}
 use native.Mathlib.Omega.{arith}
+use Rattle.std.specs.Prelude.{Ok}
 use Rattle.text.specs.Fields.{field_of, field_count}
 use Rattle.text.specs.Refusals.{first}
-use Rattle.text.specs.declared.refusal.Judged.TheVariants.{Passes}
 use Rattle.written.proofs.Passing.{all_first}
 use Rattle.lines.specs.Line.{all_clean}
 use Rattle.lines.proofs.Orders.{first_none}
@@ -29,7 +29,7 @@ use Rattle.grammar.proofs.MeasureSpellings.{seconds_spelled, seconds_taken}
 
 -- ---- the header line
 
-pub header_told : (l : List ℕ) → all_clean l ≡ true → field_count l ≡ 14 → first (header_fields l) ≡ Passes → Fields l (header_line (sequential_in l) (subframes_in l))
+pub header_told : (l : List ℕ) → all_clean l ≡ true → field_count l ≡ 14 → first (header_fields l) ≡ Ok tt → Fields l (header_line (sequential_in l) (subframes_in l))
 header_told l c n e =
     let q = first_none (header_fields l) e in
     let t : (k : ℕ) → Tidy (field_of k l) = λ k. field_tidy k l c in
@@ -52,7 +52,7 @@ header_told l c n e =
 
 pub record HeaderRead (l : List ℕ) (q : Bool) (s : ℕ) : Type 0 where
   pub count : field_count l ≡ 14
-  pub pass : first (header_fields l) ≡ Passes
+  pub pass : first (header_fields l) ≡ Ok tt
   pub sequential : sequential_in l ≡ q
   pub subframes : subframes_in l ≡ s
 
@@ -86,7 +86,7 @@ header_read l q s a b w =
 
 -- ---- the line of a record pair
 
-pub record_told : (l : List ℕ) → all_clean l ≡ true → field_count l ≡ 5 → first (record_fields l) ≡ Passes → Fields l (record_line (subframe_of l))
+pub record_told : (l : List ℕ) → all_clean l ≡ true → field_count l ≡ 5 → first (record_fields l) ≡ Ok tt → Fields l (record_line (subframe_of l))
 record_told l c n e =
     let q = first_none (record_fields l) e in
     all_fields l (record_line (subframe_of l)) (omega arith) n
@@ -99,7 +99,7 @@ record_told l c n e =
 
 pub record RecordRead (l : List ℕ) (p : Subframe) : Type 0 where
   pub count : field_count l ≡ 5
-  pub pass : first (record_fields l) ≡ Passes
+  pub pass : first (record_fields l) ≡ Ok tt
   pub says : subframe_of l ≡ p
 
 -- a pair of the same numbers is the same

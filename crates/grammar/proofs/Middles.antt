@@ -7,10 +7,10 @@ use Prim.Native.Nat.{ℕ, suc, ◌+◌, ◌≤◌, ◌<◌}
 use native.Mathlib.Omega.{arith}
 use borrow.Author.Tests.{lt-leb, le-ltb, eq-eqb}
 use lib.ListN.{length, get_or, length-append, get_or-append}
+use Rattle.std.specs.Prelude.{Ok}
 use Rattle.lay.proofs.Tests.{and_both}
 use Rattle.sample.specs.declared.component.Component.{Component as Piece}
 use Rattle.sample.specs.Clash.{clash, clash_any, twice}
-use Rattle.text.specs.declared.refusal.Judged.TheVariants.{Passes}
 use Rattle.written.proofs.Tests.{neither}
 use Rattle.model.specs.Content.{Content, Parameter, Sample, Component, Subframe, no_parameter, no_sample, no_component, no_subframe, parameters, component}
 use Rattle.model.specs.Forms.{sheet_limits}
@@ -110,7 +110,7 @@ module _ (subs : List Subframe) (p : Parameter) (h : ParameterLaw sheet_limits s
           let v = sym (given_width subs s sample_law.each) ∙ w ∙ given_width subs r a.each in
           rw (eq-eqb (given s.components) (given r.components) v)
 
-  pub width_passes : width_test ss s.components ≡ Passes
+  pub width_passes : width_test ss s.components ≡ Ok tt
   unfolding width_test
   width_passes =
       let z = next_none s (λ k l. (sample_law.overlaps k l).next) in
@@ -181,7 +181,7 @@ module _ (subs : List Subframe) (small : Each (λ f. f.words ≤ sheet_limits.wo
       let z : last_overlap (k ∷ ds) ≡ 0 = sym (ap last_overlap e ∙ last_middle cs k ds) ∙ next_none s next in
       omega (arith, h.narrow, given_width subs s h.each, ap given e, given_join cs (k ∷ ds), given_first k ds followed.1 z)
 
-  pub joined_passes : joined_test cs k ≡ Passes
+  pub joined_passes : joined_test cs k ≡ Ok tt
   unfolding joined_test
   joined_passes =
       let q : s.components ≡ (cs ++ (k ∷ [])) ++ ds = e ∙ sym (append_assoc cs (k ∷ []) ds) in

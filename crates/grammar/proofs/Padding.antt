@@ -5,14 +5,12 @@ use mathlib.Core.Path.{◌≡◌, refl, ap, ◌∙◌}
 use mathlib.Core.Logic.{inl, inr, ⊎_elim}
 use mathlib.Core.Bool.{Bool, true, false}
 use mathlib.Core.List.{List, [], ◌∷◌, ◌++◌}
-use Prim.Native.Nat.{ℕ, suc, ◌-◌, ◌<◌}
-use lib.ListN.{length, get_or}
-use lib.Seq.{take-length}
+use Prim.Native.Nat.{ℕ, suc}
 use lib.Dec.{eqb}
 use borrow.Author.Tests.{eqb-true}
 use Rattle.lay.proofs.Tests.{or_either}
 use Rattle.text.specs.Blanks.{space, tab, is_blank, before, trim_start, trim_end, trim}
-use Rattle.text.proofs.Trims.{start_solid, prefix_solid}
+use Rattle.text.proofs.Trims.{start_solid, last_solid}
 use Rattle.grammar.specs.Written.{Blank, Blanks}
 use Rattle.grammar.proofs.Tidy.{Tidy}
 use Rattle.grammar.proofs.Tidies.{each_join, each_cons}
@@ -55,15 +53,12 @@ unfolding trim_end
 end_blanks [] m h = end_none m h
 end_blanks (b ∷ l) m h = ap (before b) (end_blanks l m h)
 
-end_solid : (l : List ℕ) → 0 < length l → is_blank (get_or l (length l - 1) 0) ≡ false → trim_end l ≡ l
-end_solid l h e = rw take-length at (prefix_solid l (length l) h (omega arith) e)
-
 pub padded_trim : (before f after : List ℕ) → Blanks before → Tidy f → Blanks after → trim (before ++ (f ++ after)) ≡ f
 unfolding trim
 padded_trim before [] after h t k = ap trim_end (start_blanks before after h ∙ start_none after k) ∙ end_none [] blanks_none
 padded_trim before (b ∷ f) after h t k =
     ap trim_end (start_blanks before ((b ∷ f) ++ after) h ∙ start_solid ((b ∷ f) ++ after) (omega arith) t.begins)
-    ∙ (end_blanks (b ∷ f) after k ∙ end_solid (b ∷ f) (omega arith) t.ends)
+    ∙ (end_blanks (b ∷ f) after k ∙ last_solid (b ∷ f) (omega arith) t.ends)
 
 -- ---- every piece is its trimmed self between blanks
 

@@ -7,9 +7,9 @@ use mathlib.Core.List.{List, [], ◌∷◌}
 use Prim.Native.Nat.{ℕ, ◌≤◌}
 use native.Mathlib.Omega.{arith}
 use lib.ListN.{length, length-append}
+use Rattle.std.specs.Prelude.{Ok}
 use Rattle.text.specs.Fields.{field_of, field_count}
 use Rattle.text.specs.Refusals.{first}
-use Rattle.text.specs.declared.refusal.Judged.TheVariants.{Passes}
 use Rattle.spell.specs.Integers.{most_of_six}
 use Rattle.spell.specs.Decimals.{point}
 use Rattle.written.specs.Words.{IsDecimal}
@@ -34,7 +34,7 @@ use Rattle.grammar.proofs.MeasureSpellings.{time_spelled, time_taken, bits_spell
 
 -- ---- the line of names
 
-pub name_told : (l : List ℕ) → all_clean l ≡ true → field_count l ≡ 7 → first (name_fields l) ≡ Passes → Fields l (name_line (named_of l))
+pub name_told : (l : List ℕ) → all_clean l ≡ true → field_count l ≡ 7 → first (name_fields l) ≡ Ok tt → Fields l (name_line (named_of l))
 name_told l c n e =
     let q = first_none (name_fields l) e in
     let t : (k : ℕ) → Tidy (field_of k l) = λ k. field_tidy k l c in
@@ -50,7 +50,7 @@ name_told l c n e =
 
 pub record NameRead (l : List ℕ) (p : Parameter) : Type 0 where
   pub count : field_count l ≡ 7
-  pub pass : first (name_fields l) ≡ Passes
+  pub pass : first (name_fields l) ≡ Ok tt
   pub name : field_of 0 l ≡ p.name
   pub mnemonic : field_of 1 l ≡ p.mnemonic
   pub identification : field_of 2 l ≡ p.identification
@@ -65,8 +65,8 @@ name_read l p s a b d w =
       pass =
           all_first (name_fields l)
           (name_taken (field_of 0 l) true p.name a (λ e. s) (r 0 (omega arith))
-          & name_taken (field_of 1 l) false p.mnemonic b (λ e. absurd (let z : ◌≡◌ {A = ℕ} 0 1 = cc in omega arith)) (r 1 (omega arith))
-          & name_taken (field_of 2 l) false p.identification d (λ e. absurd (let z : ◌≡◌ {A = ℕ} 0 1 = cc in omega arith)) (r 2 (omega arith))
+          & name_taken (field_of 1 l) false p.mnemonic b (λ e. absurd (cc)) (r 1 (omega arith))
+          & name_taken (field_of 2 l) false p.identification d (λ e. absurd (cc)) (r 2 (omega arith))
           & i.0
           & empty_taken (field_of 4 l) (r 4 (omega arith))
           & text_taken (field_of 5 l) (r 5 (omega arith))
@@ -80,7 +80,7 @@ name_read l p s a b d w =
 
 -- ---- a component line
 
-pub component_told : (s : ℕ) (words bits : List ℕ) (l : List ℕ) → all_clean l ≡ true → field_count l ≡ 4 → first (component_fields s words bits l) ≡ Passes → Fields l (component_line (component_of l))
+pub component_told : (s : ℕ) (words bits : List ℕ) (l : List ℕ) → all_clean l ≡ true → field_count l ≡ 4 → first (component_fields s words bits l) ≡ Ok tt → Fields l (component_line (component_of l))
 component_told s words bits l c n e =
     let q = first_none (component_fields s words bits l) e in
     all_fields l (component_line (component_of l)) (omega arith) n
@@ -102,7 +102,7 @@ pub record Within (s : ℕ) (words bits : List ℕ) (c : Component) : Type 0 whe
 
 pub record ComponentRead (s : ℕ) (words bits : List ℕ) (l : List ℕ) (c : Component) : Type 0 where
   pub count : field_count l ≡ 4
-  pub pass : first (component_fields s words bits l) ≡ Passes
+  pub pass : first (component_fields s words bits l) ≡ Ok tt
   pub says : component_of l ≡ c
 
 -- a component of the same numbers is the same
@@ -126,13 +126,13 @@ component_read s words bits l c h w =
 
 -- ---- a time line
 
-pub time_told : (l : List ℕ) → all_clean l ≡ true → field_count l ≡ 1 → first (time_fields l) ≡ Passes → Fields l (time (time_in l) ∷ [])
+pub time_told : (l : List ℕ) → all_clean l ≡ true → field_count l ≡ 1 → first (time_fields l) ≡ Ok tt → Fields l (time (time_in l) ∷ [])
 time_told l c n e =
     all_fields l (time (time_in l) ∷ []) (omega arith) n (time_spelled (field_of 0 l) (first_none (time_fields l) e 0) & tt)
 
 pub record TimeRead (l : List ℕ) (v : ℕ) : Type 0 where
   pub count : field_count l ≡ 1
-  pub pass : first (time_fields l) ≡ Passes
+  pub pass : first (time_fields l) ≡ Ok tt
   pub says : time_in l ≡ v
 
 -- no decimal is empty

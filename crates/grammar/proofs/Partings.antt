@@ -31,11 +31,11 @@ without_count b (x ∷ l) h = rw (ne_eqb x b (h 0 (omega arith))) (without_count
 
 count_without : (b : ℕ) (l : List ℕ) → count_of b l ≡ 0 → Without b l
 unfolding count_of
-count_without b [] e i h q = let z : ⊥ = omega arith in z
+count_without b [] e i h q = omega arith
 count_without b (x ∷ l) e i h q = go (count_without b l) (eqb x b) refl e i h q
   where
     go : (count_of b l ≡ 0 → Without b l) → (t : Bool) → eqb x b ≡ t → cond t (suc (count_of b l)) (count_of b l) ≡ 0 → (i : ℕ) → i < suc (length l) → get_or (x ∷ l) i 0 ≡ b → ⊥
-    go ih true p e i h q = let z : ⊥ = omega arith in z
+    go ih true p e i h q = omega arith
     go ih false p e zero h q = eqb-false x b p q
     go ih false p e (suc i) h q = ih e i (omega arith) q
 
@@ -55,8 +55,7 @@ count_holds b l h = go (holds b l) refl
 
 blanks_without : (l : List ℕ) → Blanks l → Without comma l
 blanks_without l h i m e =
-    let z : ⊥ = ⊎_elim (λ p. omega arith) (λ p. omega arith) (h i m) in
-    z
+    ⊎_elim (λ p. omega arith) (λ p. omega arith) (h i m)
 
 abbrev Clean : ℕ → Type 0
 Clean b = is_clean b ≡ true
@@ -123,7 +122,7 @@ fields_commas l (i ∷ j ∷ is) h f =
     omega (arith, fields_commas y (j ∷ is) (omega arith) f.4)
 
 some_bytes : (b : ℕ) (m : List ℕ) → eqb (length (b ∷ m)) 0 ≡ false
-some_bytes b m = ne_eqb (length (b ∷ m)) 0 (λ e. let z : ⊥ = omega arith in z)
+some_bytes b m = ne_eqb (length (b ∷ m)) 0 (λ e. omega arith)
 
 -- a line with a comma is not blank
 count_line : (l : List ℕ) (n : ℕ) → 2 ≤ n → count_of comma l + 1 ≡ n → field_count l ≡ n

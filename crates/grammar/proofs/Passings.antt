@@ -3,13 +3,10 @@ use mathlib.Core.Path.{◌≡◌, refl, sym, ◌∙◌}
 use mathlib.Core.Bool.{true, false, not}
 use mathlib.Core.List.{List, [], ◌∷◌, ◌++◌}
 use Prim.Native.Nat.{ℕ, ◌≤◌}
-use native.Mathlib.Omega.{arith}
 use borrow.Author.Tests.{ltb-false, le-ltb, not-false}
 use lib.ListN.{length}
-use Rattle.text.specs.Refusals.{first, or_else}
-use Rattle.text.specs.declared.refusal.Refusal.{Refusal}
-use Rattle.text.specs.declared.refusal.Judged.{Judged}
-use Rattle.text.specs.declared.refusal.Judged.TheVariants.{Passes, Refused}
+use Rattle.std.specs.Prelude.{Ok, Err}
+use Rattle.text.specs.Refusals.{first, or_else, Judged}
 use Rattle.text.proofs.Order.{first_step}
 use Rattle.lines.specs.Line.{all_clean}
 use Rattle.lines.specs.Order.{line_judged}
@@ -19,29 +16,26 @@ use Rattle.lineforms.specs.declared.due.Form.{Form}
 use Rattle.gather.specs.Book.{Book}
 use Rattle.gather.specs.Tests.{due_test, room_test, field_tests, sample_test, names_test, tests_of}
 
-pub refused_passes : {A : Type 0} (r : Refusal) → Refused r ≡ Passes → A
-refused_passes r e = absurd (let z : ◌≡◌ {A = ℕ} 0 1 = cc in omega arith)
+else_passed : (a b : Judged) → or_else a b ≡ Ok tt → (a ≡ Ok tt) × (b ≡ Ok tt)
+else_passed (Ok _) b e = (refl, e)
+else_passed (Err r) b e = absurd (cc)
 
-else_passed : (a b : Judged) → or_else a b ≡ Passes → (a ≡ Passes) × (b ≡ Passes)
-else_passed Passes b e = (refl, e)
-else_passed (Refused r) b e = refused_passes r e
-
-else_passes : (a b : Judged) → a ≡ Passes → b ≡ Passes → or_else a b ≡ Passes
+else_passes : (a b : Judged) → a ≡ Ok tt → b ≡ Ok tt → or_else a b ≡ Ok tt
 else_passes a b p q = rw p q
 
-one_passed : (j : Judged) (js : List Judged) → first (j ∷ js) ≡ Passes → (j ≡ Passes) × (first js ≡ Passes)
+one_passed : (j : Judged) (js : List Judged) → first (j ∷ js) ≡ Ok tt → (j ≡ Ok tt) × (first js ≡ Ok tt)
 one_passed j js e = else_passed j (first js) (sym (first_step j js) ∙ e)
 
-one_passes : (j : Judged) (js : List Judged) → j ≡ Passes → first js ≡ Passes → first (j ∷ js) ≡ Passes
+one_passes : (j : Judged) (js : List Judged) → j ≡ Ok tt → first js ≡ Ok tt → first (j ∷ js) ≡ Ok tt
 one_passes j js p q = first_step j js ∙ else_passes j (first js) p q
 
-many_passed : (js ks : List Judged) → first (js ++ ks) ≡ Passes → (first js ≡ Passes) × (first ks ≡ Passes)
+many_passed : (js ks : List Judged) → first (js ++ ks) ≡ Ok tt → (first js ≡ Ok tt) × (first ks ≡ Ok tt)
 many_passed js ks e = else_passed (first js) (first ks) (sym (first_append js ks) ∙ e)
 
-many_passes : (js ks : List Judged) → first js ≡ Passes → first ks ≡ Passes → first (js ++ ks) ≡ Passes
+many_passes : (js ks : List Judged) → first js ≡ Ok tt → first ks ≡ Ok tt → first (js ++ ks) ≡ Ok tt
 many_passes js ks p q = first_append js ks ∙ else_passes (first js) (first ks) p q
 
-pub none_passes : first [] ≡ Passes
+pub none_passes : first [] ≡ Ok tt
 unfolding first
 none_passes = refl
 
@@ -50,14 +44,14 @@ none_passes = refl
 pub record Passing (f : Form) (K : Book) (l : List ℕ) : Type 0 where
   pub short : length l ≤ 1024
   pub clean : all_clean l ≡ true
-  pub due : due_test f ≡ Passes
-  pub room : room_test f K ≡ Passes
-  pub fields : first (field_tests f K l) ≡ Passes
-  pub sample : sample_test f K l ≡ Passes
-  pub names : names_test f K l ≡ Passes
+  pub due : due_test f ≡ Ok tt
+  pub room : room_test f K ≡ Ok tt
+  pub fields : first (field_tests f K l) ≡ Ok tt
+  pub sample : sample_test f K l ≡ Ok tt
+  pub names : names_test f K l ≡ Ok tt
 
 module _ (f : Form) (K : Book) (l : List ℕ) where
-  pub passed : line_judged true l (tests_of f K l) ≡ Passes → Passing f K l
+  pub passed : line_judged true l (tests_of f K l) ≡ Ok tt → Passing f K l
   unfolding line_judged
   passed e =
       let a = one_passed _ _ e in
@@ -78,7 +72,7 @@ module _ (f : Form) (K : Book) (l : List ℕ) where
         names = n.0;
       }
 
-  pub passing : Passing f K l → line_judged true l (tests_of f K l) ≡ Passes
+  pub passing : Passing f K l → line_judged true l (tests_of f K l) ≡ Ok tt
   unfolding line_judged
   passing p =
       let n = one_passes (names_test f K l) [] p.names none_passes in

@@ -9,12 +9,12 @@ use native.Mathlib.Omega.{arith}
 use borrow.Author.Tests.{eqb-true, ne_eqb}
 use lib.Dec.{eqb}
 use lib.ListN.{length, get_or, length-append}
+use Rattle.std.specs.Prelude.{Ok}
 use Rattle.lay.specs.Below.{tab}
 use Rattle.lay.proofs.Below.{length_tab, get_or_tab}
 use Rattle.text.specs.Fields.{field_count}
 use Rattle.text.specs.Keywords.{header_word, record_word}
 use Rattle.text.specs.Refusals.{first}
-use Rattle.text.specs.declared.refusal.Judged.TheVariants.{Passes}
 use Rattle.lineforms.specs.Forms.{word_form, count_form, either_form, form_of, due_after}
 use Rattle.lineforms.specs.declared.due.Due.{Due}
 use Rattle.lineforms.specs.declared.due.Due.TheVariants as due
@@ -68,7 +68,7 @@ pub record Step (d : Due) (K : Book) (l : List ℕ) (c : Content) (ls : List (Li
 -- ---- a first line
 
 pub none_left : {A : Type 0} {items : List Item} {ls : List (List Item)} → [] ≡ items ∷ ls → A
-none_left e = let z : ◌≡◌ {A = ℕ} 0 1 = cc in absurd (omega arith)
+none_left e = absurd (cc)
 
 pub record First (l : List ℕ) (items : List Item) (ls others : List (List Item)) : Type 0 where
   pub line : Line l items
@@ -81,7 +81,7 @@ first_line l items is ls others h e =
 
 module _ (K : Book) (l : List ℕ) (items : List Item) (h : Line l items) where
   -- a line that is written is short and clean; its other tests go by its form
-  pub line_passes : (f : Form) → due_test f ≡ Passes → room_test f K ≡ Passes → first (field_tests f K l) ≡ Passes → sample_test f K l ≡ Passes → names_test f K l ≡ Passes → Passing f K l
+  pub line_passes : (f : Form) → due_test f ≡ Ok tt → room_test f K ≡ Ok tt → first (field_tests f K l) ≡ Ok tt → sample_test f K l ≡ Ok tt → names_test f K l ≡ Ok tt → Passing f K l
   line_passes f d r w s n =
       record {
         short = h.short;
@@ -118,7 +118,7 @@ one_spread : (ps : List Subframe) → ps ≡ spread (length ps) ps
 unfolding spread
 one_spread [] = refl
 one_spread (p ∷ []) = refl
-one_spread (p ∷ q ∷ ps) = rw (ne_eqb (length (p ∷ q ∷ ps)) 1 (λ e. let z : ⊥ = omega arith in z))
+one_spread (p ∷ q ∷ ps) = rw (ne_eqb (length (p ∷ q ∷ ps)) 1 (λ e. omega arith))
 
 pub declare_spread : (pairs subs : List Subframe) → 1 ≤ length subs → Declare pairs subs → Declares pairs subs
 unfolding spread

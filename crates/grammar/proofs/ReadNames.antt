@@ -8,9 +8,9 @@ use native.Mathlib.Omega.{arith}
 use borrow.Author.Tests.{eq-eqb, ne_eqb, eqb-false, lt-leb}
 use lib.Dec.{eqb}
 use lib.ListN.{length, length-append}
+use Rattle.std.specs.Prelude.{Ok}
 use Rattle.text.specs.Keywords.{record_word, none_word, parameter_word, keyword_of}
 use Rattle.text.specs.declared.keyword.Keyword.TheVariants as keyword
-use Rattle.text.specs.declared.refusal.Judged.TheVariants.{Passes}
 use Rattle.written.proofs.Passing.{false_when}
 use Rattle.lineforms.specs.Forms.{word_form, opening_form, form_of}
 use Rattle.lineforms.specs.declared.due.Due.TheVariants as due
@@ -76,7 +76,7 @@ module _ (K : Book) (c : Content) (told : List Told) (m : Pairs K c [] told) whe
       }
 
 -- 12 on the line that opens a parameter
-room_passes : (K : Book) (c : Content) (p : Parameter) (ps : List Parameter) → Lawful sheet_limits c → Grows K c (p ∷ ps) → room_for_parameter K ≡ Passes
+room_passes : (K : Book) (c : Content) (p : Parameter) (ps : List Parameter) → Lawful sheet_limits c → Grows K c (p ∷ ps) → room_for_parameter K ≡ Ok tt
 unfolding room_for_parameter
 room_passes K c p ps h m = false_when _ _ (lt-leb sheet_limits.parameters (length K.parameters) (middle_room c h K.parameters p ps m.list))
 
@@ -131,8 +131,8 @@ module _ (K : Book) (l : List ℕ) (c : Content) (items : List Item) (ls : List 
       }
     where
       between : (length (K.pairs ++ (p ∷ pairs)) ≡ 1) ⊎ (length (K.pairs ++ (p ∷ pairs)) ≡ K.declared) → length K.pairs ≡ K.declared → ⊥
-      between (inl e) q = let z : ⊥ = omega (arith, length-append K.pairs (p ∷ pairs)) in z
-      between (inr e) q = let z : ⊥ = omega (arith, length-append K.pairs (p ∷ pairs)) in z
+      between (inl e) q = omega (arith, length-append K.pairs (p ∷ pairs))
+      between (inr e) q = omega (arith, length-append K.pairs (p ∷ pairs))
 
   pub reads_opening : Begun due.Opening K → RecordsLeft K c (items ∷ ls) → Step due.Opening K l c ls
   reads_opening b x = go x.pairs x.told x.lines x.made
@@ -162,7 +162,7 @@ module _ (K : Book) (l : List ℕ) (c : Content) (items : List Item) (ls : List 
 
   -- ---- the names
 
-  names_passes : (p : Parameter) (ps : List Parameter) → Grows K c (p ∷ ps) → NameRead l p → names_test form.NameLine K l ≡ Passes
+  names_passes : (p : Parameter) (ps : List Parameter) → Grows K c (p ∷ ps) → NameRead l p → names_test form.NameLine K l ≡ Ok tt
   names_passes p ps m r =
       let a = middle_apart c h K.parameters p ps m.list in
       let w : Each (λ q. NamedApart q (named_of l)) no_parameter K.parameters =

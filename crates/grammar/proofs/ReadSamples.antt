@@ -5,8 +5,8 @@ use Prim.Native.Nat.{ℕ, ◌≤◌, ◌<◌}
 use native.Mathlib.Omega.{arith}
 use borrow.Author.Tests.{lt-leb, ne_eqb}
 use lib.ListN.{length, length-append}
+use Rattle.std.specs.Prelude.{Ok}
 use Rattle.text.specs.Fields.{field_count}
-use Rattle.text.specs.declared.refusal.Judged.TheVariants.{Passes}
 use Rattle.lineforms.specs.Forms.{either_form, after_sample_form, form_of}
 use Rattle.lineforms.specs.declared.due.Due.TheVariants as due
 use Rattle.lineforms.specs.declared.due.Form.{Form}
@@ -72,7 +72,7 @@ module _ (K : Book) (c : Content) (h : Lawful sheet_limits c) (k : Component) (x
       }
 
   -- 14
-  component_joins : joined_test K.parts k ≡ Passes
+  component_joins : joined_test K.parts k ≡ Ok tt
   component_joins = joined_passes c.subframes (λ i l. (h.each_subframe i l).few_words) sample open_sample K.parts k x.parts refl
 
   -- 12
@@ -91,7 +91,7 @@ module _ (K : Book) (c : Content) (h : Lawful sheet_limits c) (k : Component) (x
         length-append K.parts (k ∷ x.parts),
       )
 
-  sample_passes : room_for_sample K ≡ Passes
+  sample_passes : room_for_sample K ≡ Ok tt
   unfolding room_for_sample
   sample_passes =
       let n = sample_room c.subframes parameter open_law K.opened.samples sample x.samples refl in
@@ -101,7 +101,7 @@ module _ (K : Book) (c : Content) (h : Lawful sheet_limits c) (k : Component) (x
         lt-leb sheet_limits.components (components_so_far K) some_components,
       )
 
-  component_passes : room_for_component K ≡ Passes
+  component_passes : room_for_component K ≡ Ok tt
   unfolding room_for_component
   component_passes =
       let n = part_room c.subframes (λ i l. (h.each_subframe i l).few_words) sample open_sample K.parts k x.parts refl in
@@ -133,7 +133,7 @@ module _ (K : Book) (l : List ℕ) (c : Content) (ls : List (List Item)) (h : La
       component_read K.declared (words_of K.pairs) (bits_of K.pairs) l x.component (component_within K c h x.component x.middle)
       x.first.line.fields
 
-  comes_joins : joined_test K.parts (component_of l) ≡ Passes
+  comes_joins : joined_test K.parts (component_of l) ≡ Ok tt
   comes_joins = rw comes_read.says (component_joins K c h x.component x.middle)
 
   comes_left : PartsLeft (parting K (K.parts ++ (component_of l ∷ []))) c ls

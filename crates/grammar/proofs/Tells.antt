@@ -14,7 +14,6 @@ use Rattle.text.specs.Blanks.{trim}
 use Rattle.text.specs.Fields.{field_count}
 use Rattle.text.specs.Keywords.{header_word, record_word, none_word, parameter_word}
 use Rattle.text.specs.declared.keyword.Keyword.TheVariants as keyword
-use Rattle.text.specs.declared.refusal.Refusal.TheVariants.{NotDue, NotCarried}
 use Rattle.lineforms.specs.Forms.{due_after}
 use Rattle.lineforms.specs.Said.{subframes_in}
 use Rattle.lineforms.specs.declared.due.Due.{Due}
@@ -30,7 +29,7 @@ use Rattle.grammar.specs.Says.{word, header_line, record_line, Declare, paramete
 use Rattle.grammar.proofs.Partings.{trim_word, count_blank}
 use Rattle.grammar.proofs.HeadKinds.{header_told, record_told}
 use Rattle.grammar.proofs.Left.{Left}
-use Rattle.grammar.proofs.Passings.{refused_passes, Passing}
+use Rattle.grammar.proofs.Passings.{Passing}
 use Rattle.grammar.proofs.Worded.{spoken_text}
 
 -- one line more before what is left
@@ -52,19 +51,19 @@ module _ (s : ℕ) (pairs subs : List Subframe) where
     where
       go : (t : Bool) → eqb (length pairs) 1 ≡ t → subs ≡ cond t (tab s (λ i. get_or pairs 0 no_subframe)) pairs → (ps : List Subframe) → pairs ≡ ps → Declare pairs subs
       go false q h ps r = inl (sym h)
-      go true q h [] r = absurd (let z : ⊥ = omega (arith, eqb-true (length pairs) 1 q, ap length r) in z)
+      go true q h [] r = absurd (omega (arith, eqb-true (length pairs) 1 q, ap length r))
       go true q h (p ∷ []) r =
           inr (p, r, h ∙ ap (λ (l : List Subframe). tab s (λ i. get_or l 0 no_subframe)) r ∙ ap (λ (k : ℕ). tab k (λ i. p)) (sym n))
-      go true q h (p ∷ x ∷ ps) r = absurd (let z : ⊥ = omega (arith, eqb-true (length pairs) 1 q, ap length r) in z)
+      go true q h (p ∷ x ∷ ps) r = absurd (omega (arith, eqb-true (length pairs) 1 q, ap length r))
 
 module _ (K : Book) (l : List ℕ) (c : Content) (ls : List (List Item)) where
   -- ---- lines that are not due
 
   pub tells_stray : (d : Due) → Tells d K l c ls form.Stray
-  tells_stray d s p x = refused_passes NotDue p.due
+  tells_stray d s p x = absurd (cc (p.due))
 
   pub tells_superframe : (d : Due) → Tells d K l c ls form.Superframe
-  tells_superframe d s p x = refused_passes NotCarried p.due
+  tells_superframe d s p x = absurd (cc (p.due))
 
   -- ---- words and blank lines
 

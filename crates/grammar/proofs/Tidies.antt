@@ -27,7 +27,7 @@ use Rattle.grammar.proofs.Tidy.{Tidy}
 
 -- a byte that text holds
 printed_clean : (b : ℕ) → 32 ≤ b → b ≤ 126 → is_clean b ≡ true
-printed_clean b h k = rw (ne_eqb b 9 (λ e. let z : ⊥ = omega arith in z), le-leb 32 b h, le-leb b 126 k)
+printed_clean b h k = rw (ne_eqb b 9 (λ e. omega arith), le-leb 32 b h, le-leb b 126 k)
 
 solid_byte : (b : ℕ) → (b ≡ 32 → ⊥) → (b ≡ 9 → ⊥) → is_blank b ≡ false
 solid_byte b h k = rw (ne_eqb b 32 h, ne_eqb b 9 k)
@@ -45,9 +45,9 @@ each_cons P b y p k (suc i) m = k i (omega arith)
 -- ---- texts
 
 text_ends : (f : List ℕ) → ((i : ℕ) → i < length f → 32 ≤ get_or f i 0) → (i : ℕ) → get_or f i 0 ≡ 9 → ⊥
-text_ends [] h zero e = let z : ⊥ = omega arith in z
-text_ends [] h (suc i) e = let z : ⊥ = omega arith in z
-text_ends (b ∷ f) h zero e = let z : ⊥ = omega (arith, h 0 (omega arith)) in z
+text_ends [] h zero e = omega arith
+text_ends [] h (suc i) e = omega arith
+text_ends (b ∷ f) h zero e = omega (arith, h 0 (omega arith))
 text_ends (b ∷ f) h (suc i) e = text_ends f (λ j m. h (suc j) (omega arith)) i e
 
 text_tidy : (f : List ℕ) → Text f → Tidy f
@@ -69,7 +69,7 @@ numeral_tidy : (base n : ℕ) (f : List ℕ) → base ≤ 10 → Numeral base n 
 numeral_tidy base n f b d =
     record {
       clean = λ i h. printed_clean (get_or f i 0) (omega (arith, (d.each i h).least)) (omega (arith, (d.each i h).below));
-      comma = λ i h e. let z : ⊥ = omega (arith, (d.each i h).least) in z;
+      comma = λ i h e. omega (arith, (d.each i h).least);
       begins = solid 0 d.some;
       ends = solid (length f - 1) (omega (arith, d.some));
     }
@@ -77,8 +77,8 @@ numeral_tidy base n f b d =
     solid : (i : ℕ) → i < length f → is_blank (get_or f i 0) ≡ false
     solid i h =
         solid_byte (get_or f i 0)
-        (λ e. let z : ⊥ = omega (arith, (d.each i h).least) in z)
-        (λ e. let z : ⊥ = omega (arith, (d.each i h).least) in z)
+        (λ e. omega (arith, (d.each i h).least))
+        (λ e. omega (arith, (d.each i h).least))
 
 -- two tidy spellings, neither empty, with a mark between
 joined_tidy : (m : ℕ) (x y : List ℕ) → is_clean m ≡ true → (m ≡ comma → ⊥) → 1 ≤ length x → 1 ≤ length y → Tidy x → Tidy y → Tidy (x ++ (m ∷ y))
@@ -104,26 +104,26 @@ decimal_tidy : (n : ℕ) (f : List ℕ) (v : ℕ) → IsDecimal n f v → Tidy f
 decimal_tidy n f v =
     ⊎_elim
     (λ w. numeral_tidy 10 n f (omega arith) w.digits)
-    (λ w. marked_tidy point n 6 f w.before w.after refl (λ e. let z : ⊥ = omega arith in z) w.digits)
+    (λ w. marked_tidy point n 6 f w.before w.after refl (λ e. omega arith) w.digits)
 
 range_tidy : (f : List ℕ) (a b : ℕ) → IsRange f a b → Tidy f
 range_tidy f a b =
     ⊎_elim
     (λ w. numeral_tidy 10 6 f (omega arith) w.digits)
-    (λ w. marked_tidy hyphen 6 6 f w.from w.to refl (λ e. let z : ⊥ = omega arith in z) w.digits)
+    (λ w. marked_tidy hyphen 6 6 f w.from w.to refl (λ e. omega arith) w.digits)
 
 seconds_tidy : (f : List ℕ) (a b : ℕ) → IsSeconds f a b → Tidy f
 seconds_tidy f a b =
     ⊎_elim (λ w. decimal_tidy 6 f a w.digits)
     (⊎_elim
-    (λ w. marked_tidy slash 6 6 f w.above w.under refl (λ e. let z : ⊥ = omega arith in z) w.digits)
+    (λ w. marked_tidy slash 6 6 f w.above w.under refl (λ e. omega arith) w.digits)
     (λ w.
     let p = numeral_tidy 10 6 w.whole (omega arith) w.whole_digits in
     let q = numeral_tidy 10 6 w.above (omega arith) w.above_digits in
     let r = numeral_tidy 10 6 w.under (omega arith) w.under_digits in
-    let s = joined_tidy slash w.above w.under refl (λ e. let z : ⊥ = omega arith in z) w.above_digits.some w.under_digits.some q r in
+    let s = joined_tidy slash w.above w.under refl (λ e. omega arith) w.above_digits.some w.under_digits.some q r in
     rw w.written
-    (joined_tidy space w.whole (w.above ++ (slash ∷ w.under)) refl (λ e. let z : ⊥ = omega arith in z)
+    (joined_tidy space w.whole (w.above ++ (slash ∷ w.under)) refl (λ e. omega arith)
     w.whole_digits.some (omega (arith, length-append w.above (slash ∷ w.under))) p s)))
 
 -- ---- truths

@@ -1,145 +1,25 @@
 -- What the code stores at each line, and keeps where the line adds an item. Assumes nothing.
 use mathlib.Core.Path.{◌≡◌, refl, sym, ap, ap₂, ◌∙◌}
 use mathlib.Core.List.{List, [], ◌∷◌, ◌++◌}
-use Prim.Native.Nat.{ℕ, zero, suc, ◌+◌, ◌≤◌, ◌<◌}
-use native.Mathlib.Numerals.{add-one}
+use Prim.Native.Nat.{ℕ, ◌≤◌, ◌<◌}
 use native.Mathlib.Omega.{arith}
-use lib.ListN.{length, take, set, length-set}
-use lib.Seq.{take-suc-set, length-take-le}
+use borrow.Author.Count.{below_more}
+use lib.ListN.{length, get_or, take, set, length-set, get_or-append}
+use lib.Seq.{get_or_at}
+use Rattle.std.proofs.lemmas.List.{take-set, take_more_set}
 use Rattle.lineforms.specs.declared.due.Form.{Form}
 use Rattle.lineforms.specs.declared.due.Form.TheVariants.{Stray, Superframe, HeaderWord, HeaderLine, RecordWord, RecordLine, NoneWord, ParameterWord, NameLine, OpeningComponent, ComponentLine, TimeLine, SamplesEnd, SignedLine, RangeLine, SourceLine, LabelLine, SourceEnd, ParameterEnd}
-use Rattle.model.specs.Content.{Parameter, Subframe}
+use Rattle.model.specs.Content.{Parameter, Subframe, no_parameter}
 use Rattle.model.specs.Forms.{sheet_limits}
 use Rattle.gather.specs.Book.{Book, grow, subframe_of, words_of, bits_of}
 use Rattle.gather.specs.Ruling.{opens}
-use Rattle.judge.specs.Columns.{pair_rows, parameter_rows}
-use Rattle.judge.specs.Keeping.{row, words_said, bits_said, opened_by}
-use Rattle.judge.specs.Names.{text_at, texts_at}
+use Rattle.judge.specs.Keeping.{words_said, bits_said, is_good, home_of}
+use Rattle.judge.specs.Rows.{pair_rows, no_kept}
+use Rattle.judge.specs.Turns.{opened_after}
+use Rattle.judge.specs.declared.rows.Kept.{Kept}
 use Rattle.judge.proofs.Growing.{length_snoc}
-
--- a store behind the first n leaves them
-take_set : {A : Type 0} (l : List A) (n : ℕ) (v : A) → take n (set l n v) ≡ take n l
-take_set l zero v = refl
-take_set [] (suc n) v = refl
-take_set {A} (x ∷ l) (suc n) v = ap (λ (m : List A). x ∷ m) (take_set l n v)
-
--- and makes one item more
-take_more_set : (l : List ℕ) (n v : ℕ) → n < length l → take (n + 1) (set l n v) ≡ take n l ++ (v ∷ [])
-take_more_set l n v h = ap (λ (k : ℕ). take k (set l n v)) (add-one n) ∙ take-suc-set l n v h
-
-row_snoc : {A : Type 0} (f : Parameter → A) (ps : List Parameter) (p : Parameter) → row f (ps ++ (p ∷ [])) ≡ row f ps ++ (f p ∷ [])
-unfolding row
-row_snoc f [] p = refl
-row_snoc {A} f (q ∷ ps) p = ap (λ (l : List A). f q ∷ l) (row_snoc f ps p)
-
-pub row_length : {A : Type 0} (f : Parameter → A) (ps : List Parameter) → length (row f ps) ≡ length ps
-unfolding row
-row_length f [] = refl
-row_length f (p ∷ ps) = ap suc (row_length f ps)
-
--- ---- a number of each parameter
-
-pub record Numbered (F : Parameter → ℕ) (ps : List Parameter) (xs : List ℕ) : Type 0 where
-  pub long : length xs ≡ parameter_rows
-  pub kept : take (length ps) xs ≡ row F ps
-
-module _ (F : Parameter → ℕ) (ps : List Parameter) (xs : List ℕ) (v : ℕ) (h : Numbered F ps xs) where
-  numbered_same : Numbered F ps (set xs (length ps) v)
-  numbered_same = record { long = length-set xs (length ps) v ∙ h.long; kept = take_set xs (length ps) v ∙ h.kept }
-
-  numbered_more : (p : Parameter) → length ps ≤ sheet_limits.parameters → v ≡ F p → Numbered F (ps ++ (p ∷ [])) (set xs (length ps) v)
-  numbered_more p m e =
-      record {
-        long = length-set xs (length ps) v ∙ h.long;
-        kept =
-            ap (λ (k : ℕ). take k (set xs (length ps) v)) (length_snoc ps p)
-            ∙ (take_more_set xs (length ps) v (omega (arith, h.long))
-            ∙ (ap₂ (λ (l : List ℕ) (x : ℕ). l ++ (x ∷ [])) h.kept e ∙ sym (row_snoc F ps p)));
-      }
-
-pub numbered_step : (f : Form) (l : List ℕ) (K : Book) (F : Parameter → ℕ) (xs : List ℕ) (v : ℕ) → Numbered F K.parameters xs
-    → length K.parameters ≤ sheet_limits.parameters → v ≡ F K.opened → Numbered F (grow f l K).parameters (set xs (length K.parameters) v)
-numbered_step Stray l K F xs v h m e = numbered_same F K.parameters xs v h
-numbered_step Superframe l K F xs v h m e = numbered_same F K.parameters xs v h
-numbered_step HeaderWord l K F xs v h m e = numbered_same F K.parameters xs v h
-numbered_step HeaderLine l K F xs v h m e = numbered_same F K.parameters xs v h
-numbered_step RecordWord l K F xs v h m e = numbered_same F K.parameters xs v h
-numbered_step RecordLine l K F xs v h m e = numbered_same F K.parameters xs v h
-numbered_step NoneWord l K F xs v h m e = numbered_same F K.parameters xs v h
-numbered_step ParameterWord l K F xs v h m e = numbered_same F K.parameters xs v h
-numbered_step NameLine l K F xs v h m e = numbered_same F K.parameters xs v h
-numbered_step OpeningComponent l K F xs v h m e = numbered_same F K.parameters xs v h
-numbered_step ComponentLine l K F xs v h m e = numbered_same F K.parameters xs v h
-numbered_step TimeLine l K F xs v h m e = numbered_same F K.parameters xs v h
-numbered_step SamplesEnd l K F xs v h m e = numbered_same F K.parameters xs v h
-numbered_step SignedLine l K F xs v h m e = numbered_same F K.parameters xs v h
-numbered_step RangeLine l K F xs v h m e = numbered_same F K.parameters xs v h
-numbered_step SourceLine l K F xs v h m e = numbered_same F K.parameters xs v h
-numbered_step LabelLine l K F xs v h m e = numbered_same F K.parameters xs v h
-numbered_step SourceEnd l K F xs v h m e = numbered_same F K.parameters xs v h
-numbered_step ParameterEnd l K F xs v h m e = numbered_more F K.parameters xs v h K.opened m e
-
--- ---- a text of each parameter, by its place
-
-texts_snoc : (s us es : List ℕ) (a e : ℕ) → length us ≡ length es → texts_at s (us ++ (a ∷ [])) (es ++ (e ∷ [])) ≡ texts_at s us es ++ (text_at s a e ∷ [])
-unfolding texts_at
-texts_snoc s [] [] a e h = refl
-texts_snoc s [] (y ∷ es) a e h = absurd (omega arith)
-texts_snoc s (x ∷ us) [] a e h = absurd (omega arith)
-texts_snoc s (x ∷ us) (y ∷ es) a e h = ap (λ (l : List (List ℕ)). text_at s x y ∷ l) (texts_snoc s us es a e (omega arith))
-
-pub record Texted (s : List ℕ) (F : Parameter → List ℕ) (ps : List Parameter) (us es : List ℕ) : Type 0 where
-  pub starts : length us ≡ parameter_rows
-  pub ends : length es ≡ parameter_rows
-  pub kept : texts_at s (take (length ps) us) (take (length ps) es) ≡ row F ps
-
-module _ (s : List ℕ) (F : Parameter → List ℕ) (ps : List Parameter) (us es : List ℕ) (a e : ℕ) (h : Texted s F ps us es) where
-  texted_same : Texted s F ps (set us (length ps) a) (set es (length ps) e)
-  texted_same =
-      record {
-        starts = length-set us (length ps) a ∙ h.starts;
-        ends = length-set es (length ps) e ∙ h.ends;
-        kept = ap₂ (texts_at s) (take_set us (length ps) a) (take_set es (length ps) e) ∙ h.kept;
-      }
-
-  texted_more : (p : Parameter) → length ps ≤ sheet_limits.parameters → text_at s a e ≡ F p
-      → Texted s F (ps ++ (p ∷ [])) (set us (length ps) a) (set es (length ps) e)
-  texted_more p m q =
-      let n = length ps in
-      let u : length (take n us) ≡ n = length-take-le n us (omega (arith, h.starts)) in
-      let v : length (take n es) ≡ n = length-take-le n es (omega (arith, h.ends)) in
-      record {
-        starts = length-set us n a ∙ h.starts;
-        ends = length-set es n e ∙ h.ends;
-        kept =
-            ap (λ (k : ℕ). texts_at s (take k (set us n a)) (take k (set es n e))) (length_snoc ps p)
-            ∙ (ap₂ (texts_at s) (take_more_set us n a (omega (arith, h.starts))) (take_more_set es n e (omega (arith, h.ends)))
-            ∙ (texts_snoc s (take n us) (take n es) a e (u ∙ sym v)
-            ∙ (ap₂ (λ (l : List (List ℕ)) (x : List ℕ). l ++ (x ∷ [])) h.kept q ∙ sym (row_snoc F ps p))));
-      }
-
-pub texted_step : (f : Form) (l : List ℕ) (K : Book) (s : List ℕ) (F : Parameter → List ℕ) (us es : List ℕ) (a e : ℕ) → Texted s F K.parameters us es
-    → length K.parameters ≤ sheet_limits.parameters → text_at s a e ≡ F K.opened
-    → Texted s F (grow f l K).parameters (set us (length K.parameters) a) (set es (length K.parameters) e)
-texted_step Stray l K s F us es a e h m q = texted_same s F K.parameters us es a e h
-texted_step Superframe l K s F us es a e h m q = texted_same s F K.parameters us es a e h
-texted_step HeaderWord l K s F us es a e h m q = texted_same s F K.parameters us es a e h
-texted_step HeaderLine l K s F us es a e h m q = texted_same s F K.parameters us es a e h
-texted_step RecordWord l K s F us es a e h m q = texted_same s F K.parameters us es a e h
-texted_step RecordLine l K s F us es a e h m q = texted_same s F K.parameters us es a e h
-texted_step NoneWord l K s F us es a e h m q = texted_same s F K.parameters us es a e h
-texted_step ParameterWord l K s F us es a e h m q = texted_same s F K.parameters us es a e h
-texted_step NameLine l K s F us es a e h m q = texted_same s F K.parameters us es a e h
-texted_step OpeningComponent l K s F us es a e h m q = texted_same s F K.parameters us es a e h
-texted_step ComponentLine l K s F us es a e h m q = texted_same s F K.parameters us es a e h
-texted_step TimeLine l K s F us es a e h m q = texted_same s F K.parameters us es a e h
-texted_step SamplesEnd l K s F us es a e h m q = texted_same s F K.parameters us es a e h
-texted_step SignedLine l K s F us es a e h m q = texted_same s F K.parameters us es a e h
-texted_step RangeLine l K s F us es a e h m q = texted_same s F K.parameters us es a e h
-texted_step SourceLine l K s F us es a e h m q = texted_same s F K.parameters us es a e h
-texted_step LabelLine l K s F us es a e h m q = texted_same s F K.parameters us es a e h
-texted_step SourceEnd l K s F us es a e h m q = texted_same s F K.parameters us es a e h
-texted_step ParameterEnd l K s F us es a e h m q = texted_more s F K.parameters us es a e h K.opened m q
+use Rattle.judge.proofs.Standing.{Held}
+use Rattle.judge.proofs.Apart.{Here}
 
 -- ---- words and bits of each record pair
 
@@ -165,8 +45,8 @@ module _ (ps : List Subframe) (ws bs : List ℕ) (w b : ℕ) (h : Paired ps ws b
       record {
         long = length-set ws (length ps) w ∙ h.long;
         longs = length-set bs (length ps) b ∙ h.longs;
-        words = take_set ws (length ps) w ∙ h.words;
-        bits = take_set bs (length ps) b ∙ h.bits;
+        words = take-set ws (length ps) w ∙ h.words;
+        bits = take-set bs (length ps) b ∙ h.bits;
       }
 
   paired_more : (p : Subframe) → length ps ≤ sheet_limits.subframes → w ≡ p.words → b ≡ p.bits
@@ -206,66 +86,97 @@ paired_step LabelLine l K ws bs h m = paired_same K.pairs ws bs 0 0 h
 paired_step SourceEnd l K ws bs h m = paired_same K.pairs ws bs 0 0 h
 paired_step ParameterEnd l K ws bs h m = paired_same K.pairs ws bs 0 0 h
 
--- ---- the line of each `PARAMETER:` word
+-- ---- a row for each parameter
 
-pub record Marked (n : ℕ) (os ms : List ℕ) : Type 0 where
-  pub long : length ms ≡ parameter_rows
-  pub count : n ≡ length os
-  pub kept : take n ms ≡ os
+-- in the sheet s, what r keeps of p, whose `PARAMETER:` word is line k
+pub record Keeps (s : List ℕ) (p : Parameter) (k : ℕ) (r : Kept) : Type 0 where
+  pub places : Here s r.places p
+  pub identifier : r.identifier ≡ p.identifier
+  pub good : r.good ≡ is_good p
+  pub home : r.home ≡ home_of p
+  pub value : r.value ≡ p.value
+  pub opened_at : r.opened_at ≡ k
 
-module _ (n k : ℕ) (os ms : List ℕ) (h : Marked n os ms) where
-  marked_same : Marked (n + 0) os (set ms n k)
-  marked_same =
-      let e : n + 0 ≡ n = omega arith in
-      rw e (record { long = length-set ms n k ∙ h.long; count = h.count; kept = take_set ms n k ∙ h.kept })
+-- os are the lines of the `PARAMETER:` words
+pub record Kepts (s : List ℕ) (ps : List Parameter) (os : List ℕ) (ks : List Kept) : Type 0 where
+  pub long : length ks ≡ length ps
+  pub each : (k : ℕ) → k < length ps → Keeps s (get_or ps k no_parameter) (get_or os k 0) (get_or ks k no_kept)
 
-  marked_more : length os ≤ sheet_limits.parameters → Marked (n + 1) (os ++ (k ∷ [])) (set ms n k)
-  marked_more m =
+pub kepts_none : (s : List ℕ) → Kepts s [] [] []
+kepts_none s = record { long = refl; each = λ k l. absurd (omega arith) }
+
+module _ (s : List ℕ) (ps : List Parameter) (os : List ℕ) where
+  kepts_more : (ks : List Kept) (p : Parameter) (v : Kept) → Kepts s ps os ks → Keeps s p (get_or os (length ps) 0) v → Kepts s (ps ++ (p ∷ [])) os (ks ++ (v ∷ []))
+  kepts_more ks p v h e =
       record {
-        long = length-set ms n k ∙ h.long;
-        count = omega (arith, h.count, length_snoc os k);
-        kept = take_more_set ms n k (omega (arith, h.long, h.count)) ∙ ap (λ (l : List ℕ). l ++ (k ∷ [])) h.kept;
+        long = omega (arith, h.long, length_snoc ks v, length_snoc ps p);
+        each =
+            λ k l.
+            below_more (λ (i : ℕ). Keeps s (get_or (ps ++ (p ∷ [])) i no_parameter) (get_or os i 0) (get_or (ks ++ (v ∷ [])) i no_kept)) (length ps)
+            (λ i m. rw (get_or-append ps (p ∷ []) no_parameter i m, get_or-append ks (v ∷ []) no_kept i (omega (arith, h.long))) (h.each i m))
+            (rw (get_or_at ps p [] no_parameter (length ps) refl, get_or_at ks v [] no_kept (length ps) h.long) e)
+            k
+            (omega (arith, length_snoc ps p));
       }
 
-pub opened_one : (f : Form) → opened_by f ≤ 1
-opened_one Stray = omega arith
-opened_one Superframe = omega arith
-opened_one HeaderWord = omega arith
-opened_one HeaderLine = omega arith
-opened_one RecordWord = omega arith
-opened_one RecordLine = omega arith
-opened_one NoneWord = omega arith
-opened_one ParameterWord = omega arith
-opened_one NameLine = omega arith
-opened_one OpeningComponent = omega arith
-opened_one ComponentLine = omega arith
-opened_one TimeLine = omega arith
-opened_one SamplesEnd = omega arith
-opened_one SignedLine = omega arith
-opened_one RangeLine = omega arith
-opened_one SourceLine = omega arith
-opened_one LabelLine = omega arith
-opened_one SourceEnd = omega arith
-opened_one ParameterEnd = omega arith
+  -- one word more
+  kepts_opened : (ks : List Kept) (k : ℕ) → Kepts s ps os ks → length ps ≤ length os → Kepts s ps (os ++ (k ∷ [])) ks
+  kepts_opened ks k h m =
+      record { long = h.long; each = λ i l. rw (get_or-append os (k ∷ []) 0 i (omega arith)) (h.each i l) }
 
-pub marked_step : (f : Form) (n k : ℕ) (os ms : List ℕ) → Marked n os ms → length os ≤ sheet_limits.parameters
-    → Marked (n + opened_by f) (opens f k os) (set ms n k)
-marked_step Stray n k os ms h m = marked_same n k os ms h
-marked_step Superframe n k os ms h m = marked_same n k os ms h
-marked_step HeaderWord n k os ms h m = marked_same n k os ms h
-marked_step HeaderLine n k os ms h m = marked_same n k os ms h
-marked_step RecordWord n k os ms h m = marked_same n k os ms h
-marked_step RecordLine n k os ms h m = marked_same n k os ms h
-marked_step NoneWord n k os ms h m = marked_same n k os ms h
-marked_step ParameterWord n k os ms h m = marked_more n k os ms h m
-marked_step NameLine n k os ms h m = marked_same n k os ms h
-marked_step OpeningComponent n k os ms h m = marked_same n k os ms h
-marked_step ComponentLine n k os ms h m = marked_same n k os ms h
-marked_step TimeLine n k os ms h m = marked_same n k os ms h
-marked_step SamplesEnd n k os ms h m = marked_same n k os ms h
-marked_step SignedLine n k os ms h m = marked_same n k os ms h
-marked_step RangeLine n k os ms h m = marked_same n k os ms h
-marked_step SourceLine n k os ms h m = marked_same n k os ms h
-marked_step LabelLine n k os ms h m = marked_same n k os ms h
-marked_step SourceEnd n k os ms h m = marked_same n k os ms h
-marked_step ParameterEnd n k os ms h m = marked_same n k os ms h
+  -- a store behind the rows that stay
+  module _ (xs : List Kept) (v : Kept) (h : Kepts s ps os (take (length ps) xs)) where
+    kept_same : Kepts s ps os (take (length ps) (set xs (length ps) v))
+    kept_same = rw (take-set xs (length ps) v) h
+
+    kept_more : (p : Parameter) → length ps < length xs → Keeps s p (get_or os (length ps) 0) v → Kepts s (ps ++ (p ∷ [])) os (take (length (ps ++ (p ∷ []))) (set xs (length ps) v))
+    kept_more p m e = rw (length_snoc ps p, take_more_set xs (length ps) v m) (kepts_more (take (length ps) xs) p v h e)
+
+pub kept_step : (f : Form) (l : List ℕ) (K : Book) (s os : List ℕ) (k : ℕ) (xs : List Kept) (v : Kept) → Held f K os
+    → Kepts s K.parameters os (take (length K.parameters) xs)
+    → length K.parameters < length xs
+    → (length K.parameters < length os → Keeps s K.opened (get_or os (length K.parameters) 0) v)
+    → Kepts s (grow f l K).parameters (opens f k os) (take (length (grow f l K).parameters) (set xs (length K.parameters) v))
+kept_step Stray l K s os k xs v w h m e = kept_same s K.parameters os xs v h
+kept_step Superframe l K s os k xs v w h m e = kept_same s K.parameters os xs v h
+kept_step HeaderWord l K s os k xs v w h m e = kept_same s K.parameters os xs v h
+kept_step HeaderLine l K s os k xs v w h m e = kept_same s K.parameters os xs v h
+kept_step RecordWord l K s os k xs v w h m e = kept_same s K.parameters os xs v h
+kept_step RecordLine l K s os k xs v w h m e = kept_same s K.parameters os xs v h
+kept_step NoneWord l K s os k xs v w h m e = kept_same s K.parameters os xs v h
+kept_step ParameterWord l K s os k xs v w h m e = kepts_opened s K.parameters os (take (length K.parameters) (set xs (length K.parameters) v)) k (kept_same s K.parameters os xs v h) (omega (arith, w.level.count))
+kept_step NameLine l K s os k xs v w h m e = kept_same s K.parameters os xs v h
+kept_step OpeningComponent l K s os k xs v w h m e = kept_same s K.parameters os xs v h
+kept_step ComponentLine l K s os k xs v w h m e = kept_same s K.parameters os xs v h
+kept_step TimeLine l K s os k xs v w h m e = kept_same s K.parameters os xs v h
+kept_step SamplesEnd l K s os k xs v w h m e = kept_same s K.parameters os xs v h
+kept_step SignedLine l K s os k xs v w h m e = kept_same s K.parameters os xs v h
+kept_step RangeLine l K s os k xs v w h m e = kept_same s K.parameters os xs v h
+kept_step SourceLine l K s os k xs v w h m e = kept_same s K.parameters os xs v h
+kept_step LabelLine l K s os k xs v w h m e = kept_same s K.parameters os xs v h
+kept_step SourceEnd l K s os k xs v w h m e = kept_same s K.parameters os xs v h
+kept_step ParameterEnd l K s os k xs v w h m e = kept_more s K.parameters os xs v h K.opened m (e (omega (arith, w.count)))
+
+-- the line of the open parameter's word
+pub opened_step : (f : Form) (l : List ℕ) (K : Book) (os : List ℕ) (k o : ℕ) → Held f K os
+    → (length K.parameters < length os → o ≡ get_or os (length K.parameters) 0)
+    → length (grow f l K).parameters < length (opens f k os) → opened_after f k o ≡ get_or (opens f k os) (length (grow f l K).parameters) 0
+opened_step Stray l K os k o w h m = h m
+opened_step Superframe l K os k o w h m = h m
+opened_step HeaderWord l K os k o w h m = h m
+opened_step HeaderLine l K os k o w h m = h m
+opened_step RecordWord l K os k o w h m = h m
+opened_step RecordLine l K os k o w h m = h m
+opened_step NoneWord l K os k o w h m = h m
+opened_step ParameterWord l K os k o w h m = sym (get_or_at os k [] 0 (length K.parameters) w.level.count)
+opened_step NameLine l K os k o w h m = h m
+opened_step OpeningComponent l K os k o w h m = h m
+opened_step ComponentLine l K os k o w h m = h m
+opened_step TimeLine l K os k o w h m = h m
+opened_step SamplesEnd l K os k o w h m = h m
+opened_step SignedLine l K os k o w h m = h m
+opened_step RangeLine l K os k o w h m = h m
+opened_step SourceLine l K os k o w h m = h m
+opened_step LabelLine l K os k o w h m = h m
+opened_step SourceEnd l K os k o w h m = h m
+opened_step ParameterEnd l K os k o w h m = absurd (omega (arith, w.count, length_snoc K.parameters K.opened))

@@ -6,11 +6,10 @@ use Prim.Native.Nat.{ℕ, ◌<◌}
 use native.Mathlib.Omega.{arith}
 use borrow.Author.Tests.{leb-false}
 use lib.Dec.{leb}
-use Rattle.text.specs.Refusals.{when, first, or_else}
+use Rattle.std.specs.Prelude.{Ok, Err}
+use Rattle.text.specs.Refusals.{Judged, when, first, or_else}
 use Rattle.text.specs.declared.refusal.Refusal.{Refusal}
 use Rattle.text.specs.declared.refusal.Refusal.TheVariants.{TooMany}
-use Rattle.text.specs.declared.refusal.Judged.{Judged}
-use Rattle.text.specs.declared.refusal.Judged.TheVariants.{Passes, Refused}
 use Rattle.lineforms.specs.LineFields.{component_fields}
 use Rattle.lineforms.specs.declared.due.Form.{Form}
 use Rattle.lineforms.specs.declared.due.Form.TheVariants.{Stray, Superframe, HeaderWord, HeaderLine, RecordWord, RecordLine, NoneWord, ParameterWord, NameLine, OpeningComponent, ComponentLine, TimeLine, SamplesEnd, SignedLine, RangeLine, SourceLine, LabelLine, SourceEnd, ParameterEnd}
@@ -21,30 +20,30 @@ use Rattle.judge.specs.declared.sampling.Sampling.{Sampling}
 use Rattle.judge.specs.declared.tally.Tally.{Tally}
 use Rattle.judge.proofs.TestLaws.{component_tests}
 
-pub never_passes : {A : Type 0} (r : Refusal) → Refused r ≡ Passes → A
-never_passes r e = absurd (let z : ◌≡◌ {A = ℕ} 0 1 = cc in omega arith)
+pub never_passes : {A : Type 0} (r : Refusal) → ◌≡◌ {A = Judged} (Err r) (Ok tt) → A
+never_passes r e = absurd (cc)
 
 -- where the two pass the first passes, and the second
-pub else_0 : (j k : Judged) → or_else j k ≡ Passes → j ≡ Passes
-else_0 Passes k e = refl
-else_0 (Refused r) k e = never_passes r e
+pub else_0 : (j k : Judged) → or_else j k ≡ Ok tt → j ≡ Ok tt
+else_0 (Ok _) k e = refl
+else_0 (Err r) k e = never_passes r e
 
-else_1 : (j k : Judged) → or_else j k ≡ Passes → k ≡ Passes
-else_1 Passes k e = e
-else_1 (Refused r) k e = never_passes r e
+else_1 : (j k : Judged) → or_else j k ≡ Ok tt → k ≡ Ok tt
+else_1 (Ok _) k e = e
+else_1 (Err r) k e = never_passes r e
 
-either_none : (a b : Bool) (r : Refusal) → when (a || b) r ≡ Passes → a ≡ false
+either_none : (a b : Bool) (r : Refusal) → when (a || b) r ≡ Ok tt → a ≡ false
 either_none true b r e = never_passes r e
 either_none false b r e = refl
 
-room_left : (x : Tally) (ws bs l : List ℕ) → form_tests ComponentLine x ws bs l ≡ Passes → x.parts < sheet_limits.components_each
+room_left : (x : Tally) (ws bs l : List ℕ) → form_tests ComponentLine x ws bs l ≡ Ok tt → x.parts < sheet_limits.components_each
 unfolding room_for_component_in
 room_left x ws bs l e =
     leb-false sheet_limits.components_each x.parts
     (either_none (leb sheet_limits.components_each x.parts) (leb sheet_limits.components x.components) TooMany
     (else_0 (room_for_component_in x) (first (component_fields x.declared ws bs l)) (component_tests x ws bs l ∙ e)))
 
-pub fitting_apt : (f : Form) (x : Tally) (g : Sampling) (ws bs l : List ℕ) → Fitting f x g → form_tests f x ws bs l ≡ Passes → Apt f g
+pub fitting_apt : (f : Form) (x : Tally) (g : Sampling) (ws bs l : List ℕ) → Fitting f x g → form_tests f x ws bs l ≡ Ok tt → Apt f g
 fitting_apt Stray x g ws bs l h e = tt
 fitting_apt Superframe x g ws bs l h e = tt
 fitting_apt HeaderWord x g ws bs l h e = tt

@@ -7,11 +7,10 @@ use native.Mathlib.Omega.{arith}
 use borrow.Author.Tests.{lt-ltb, le-ltb}
 use lib.Dec.{eqb, ltb}
 use lib.ListN.{length, drop, length-drop}
-use Rattle.text.specs.Refusals.{first, or_else}
+use Rattle.std.specs.Prelude.{Ok, Err}
+use Rattle.text.specs.Refusals.{Judged, first, or_else}
 use Rattle.text.specs.declared.refusal.Refusal.{Refusal}
 use Rattle.text.specs.declared.refusal.Refusal.TheVariants.{SheetTooLong, Unended}
-use Rattle.text.specs.declared.refusal.Judged.{Judged}
-use Rattle.text.specs.declared.refusal.Judged.TheVariants as judged
 use Rattle.text.proofs.Cuts.{drop_end}
 use Rattle.lines.specs.Line.{end_byte, raw_hits}
 use Rattle.lines.specs.Lines.{Lines, none, unended, line, push, lines_of}
@@ -29,9 +28,7 @@ use Rattle.gather.specs.Ruling.{Ruling, Accepted, Refused, identified, at_end, f
 use Rattle.gather.proofs.AcceptedLawful.{identified_accepted}
 use Rattle.gather.proofs.Stages.{unended_run}
 use Rattle.judge.specs.Counts.{tally_of}
-use Rattle.judge.specs.Walk.{onward, end_book, book_of, verdict_of, may_end}
-use Rattle.judge.specs.declared.walk.Verdict.{Verdict}
-use Rattle.judge.specs.declared.walk.Verdict.TheVariants as verdict
+use Rattle.judge.specs.Walk.{onward, end_book, book_of, Verdict, refused, verdict_of, may_end}
 
 -- the answer of the lines from here on
 unfoldable pub answer : Due → Book → List ℕ → ℕ → Lines → Verdict
@@ -41,13 +38,13 @@ answer d K os k ls = verdict_of (run d K os k ls) (tally_of (end_book d K ls))
 
 two : (j k : Judged) → first (j ∷ k ∷ []) ≡ or_else j k
 unfolding first
-two judged.Passes judged.Passes = refl
-two judged.Passes (judged.Refused r) = refl
-two (judged.Refused r) k = refl
+two (Ok _) (Ok _) = refl
+two (Ok _) (Err r) = refl
+two (Err r) k = refl
 
 regroup : (a b c : Judged) → or_else a (or_else b c) ≡ or_else (or_else a b) c
-regroup judged.Passes b c = refl
-regroup (judged.Refused r) b c = refl
+regroup (Ok _) b c = refl
+regroup (Err r) b c = refl
 
 -- what a line is refused for: the raw line, then 5, 12 and the fields, then 14, then 15
 pub line_tests : (l : List ℕ) (f : Form) (K : Book) → line_judged true l (tests_of f K l) ≡ or_else (first (raw_hits true l)) (or_else (or_else (first (due_test f ∷ room_test f K ∷ field_tests f K l)) (sample_test f K l)) (names_test f K l))
@@ -60,21 +57,21 @@ line_tests l f K =
     ∙ regroup (first (due_test f ∷ room_test f K ∷ field_tests f K l)) (sample_test f K l) (names_test f K l)))
 
 module _ (d : Due) (K : Book) (os : List ℕ) (k : ℕ) (l : List ℕ) (ls : Lines) where
-  pub answer_passes : line_judged true l (tests_of (form_at d K l) K l) ≡ judged.Passes → answer d K os k (line l ls) ≡ answer (due_after (form_at d K l)) (grow (form_at d K l) l K) (opens (form_at d K l) (k + 1) os) (k + 1) ls
+  pub answer_passes : line_judged true l (tests_of (form_at d K l) K l) ≡ Ok tt → answer d K os k (line l ls) ≡ answer (due_after (form_at d K l)) (grow (form_at d K l) l K) (opens (form_at d K l) (k + 1) os) (k + 1) ls
   unfolding answer run end_book
   answer_passes e = rw e
 
-  pub answer_refused : (q : Refusal) → line_judged true l (tests_of (form_at d K l) K l) ≡ judged.Refused q → answer d K os k (line l ls) ≡ verdict.Refused q (k + 1)
+  pub answer_refused : (q : Refusal) → line_judged true l (tests_of (form_at d K l) K l) ≡ Err q → answer d K os k (line l ls) ≡ refused q (k + 1)
   unfolding answer run end_book
   answer_refused q e = rw e
 
 -- a raw line that is refused: of one that lacks its end byte, for that
-pub answer_raw : (d : Due) (K : Book) (os : List ℕ) (k : ℕ) (ls : Lines) (q : Refusal) → (ls ≡ none → ⊥) → head_judged ls ≡ judged.Refused q → answer d K os k ls ≡ verdict.Refused q (k + 1)
+pub answer_raw : (d : Due) (K : Book) (os : List ℕ) (k : ℕ) (ls : Lines) (q : Refusal) → (ls ≡ none → ⊥) → head_judged ls ≡ Err q → answer d K os k ls ≡ refused q (k + 1)
 unfolding head_judged answer first
 answer_raw d K os k none q n e = absurd (n refl)
 answer_raw d K os k (unended l) q n e =
     let z : Unended ≡ q = cc in
-    ap (λ (r : Ruling). verdict_of r (tally_of (end_book d K (unended l)))) (unended_run d K os k l) ∙ ap (λ (r : Refusal). verdict.Refused r (k + 1)) z
+    ap (λ (r : Ruling). verdict_of r (tally_of (end_book d K (unended l)))) (unended_run d K os k l) ∙ ap (λ (r : Refusal). refused r (k + 1)) z
 answer_raw d K os k (line l ls) q n e =
     answer_refused d K os k l ls q
     (line_tests l (form_at d K l) K
@@ -109,7 +106,7 @@ pub lines_none : (s : List ℕ) (at : ℕ) → length s ≤ at → lines_of (dro
 unfolding lines_of
 lines_none s at h = rw (drop_end s at h)
 
-pub answer_due : (d : Due) (K : Book) (os : List ℕ) (k : ℕ) → may_end d ≡ false → answer d K os k none ≡ verdict.Refused Unended (k + 1)
+pub answer_due : (d : Due) (K : Book) (os : List ℕ) (k : ℕ) → may_end d ≡ false → answer d K os k none ≡ refused Unended (k + 1)
 unfolding answer run
 answer_due due.HeaderWord K os k e = refl
 answer_due due.HeaderLine K os k e = refl
@@ -126,26 +123,26 @@ answer_due due.SourceLine K os k e = refl
 answer_due due.AfterSource K os k e = refl
 answer_due due.SourceBlank K os k e = refl
 answer_due due.AfterSourceBlank K os k e = refl
-answer_due due.NextParameter K os k e = absurd (let z : ◌≡◌ {A = ℕ} 0 1 = cc in omega arith)
-answer_due due.Nothing K os k e = absurd (let z : ◌≡◌ {A = ℕ} 0 1 = cc in omega arith)
+answer_due due.NextParameter K os k e = absurd (cc)
+answer_due due.Nothing K os k e = absurd (cc)
 
 pub answer_end : (d : Due) (K : Book) (os : List ℕ) (k : ℕ) → may_end d ≡ true → answer d K os k none ≡ verdict_of (identified (content_of K) os) (tally_of K)
 unfolding answer run end_book
-answer_end due.HeaderWord K os k e = absurd (let z : ◌≡◌ {A = ℕ} 0 1 = cc in omega arith)
-answer_end due.HeaderLine K os k e = absurd (let z : ◌≡◌ {A = ℕ} 0 1 = cc in omega arith)
-answer_end due.RecordWord K os k e = absurd (let z : ◌≡◌ {A = ℕ} 0 1 = cc in omega arith)
-answer_end due.RecordLine K os k e = absurd (let z : ◌≡◌ {A = ℕ} 0 1 = cc in omega arith)
-answer_end due.Opening K os k e = absurd (let z : ◌≡◌ {A = ℕ} 0 1 = cc in omega arith)
-answer_end due.NameLine K os k e = absurd (let z : ◌≡◌ {A = ℕ} 0 1 = cc in omega arith)
-answer_end due.FirstComponent K os k e = absurd (let z : ◌≡◌ {A = ℕ} 0 1 = cc in omega arith)
-answer_end due.NextComponent K os k e = absurd (let z : ◌≡◌ {A = ℕ} 0 1 = cc in omega arith)
-answer_end due.AfterSample K os k e = absurd (let z : ◌≡◌ {A = ℕ} 0 1 = cc in omega arith)
-answer_end due.SignedLine K os k e = absurd (let z : ◌≡◌ {A = ℕ} 0 1 = cc in omega arith)
-answer_end due.RangeLine K os k e = absurd (let z : ◌≡◌ {A = ℕ} 0 1 = cc in omega arith)
-answer_end due.SourceLine K os k e = absurd (let z : ◌≡◌ {A = ℕ} 0 1 = cc in omega arith)
-answer_end due.AfterSource K os k e = absurd (let z : ◌≡◌ {A = ℕ} 0 1 = cc in omega arith)
-answer_end due.SourceBlank K os k e = absurd (let z : ◌≡◌ {A = ℕ} 0 1 = cc in omega arith)
-answer_end due.AfterSourceBlank K os k e = absurd (let z : ◌≡◌ {A = ℕ} 0 1 = cc in omega arith)
+answer_end due.HeaderWord K os k e = absurd (cc)
+answer_end due.HeaderLine K os k e = absurd (cc)
+answer_end due.RecordWord K os k e = absurd (cc)
+answer_end due.RecordLine K os k e = absurd (cc)
+answer_end due.Opening K os k e = absurd (cc)
+answer_end due.NameLine K os k e = absurd (cc)
+answer_end due.FirstComponent K os k e = absurd (cc)
+answer_end due.NextComponent K os k e = absurd (cc)
+answer_end due.AfterSample K os k e = absurd (cc)
+answer_end due.SignedLine K os k e = absurd (cc)
+answer_end due.RangeLine K os k e = absurd (cc)
+answer_end due.SourceLine K os k e = absurd (cc)
+answer_end due.AfterSource K os k e = absurd (cc)
+answer_end due.SourceBlank K os k e = absurd (cc)
+answer_end due.AfterSourceBlank K os k e = absurd (cc)
 answer_end due.NextParameter K os k e = refl
 answer_end due.Nothing K os k e = refl
 
@@ -154,7 +151,7 @@ answer_end due.Nothing K os k e = refl
 abbrev pub answer_of : List ℕ → Verdict
 answer_of s = verdict_of (judge_of s) (tally_of (book_of s))
 
-pub answer_long : (s : List ℕ) → longest_sheet < length s → verdict.Refused SheetTooLong 0 ≡ answer_of s
+pub answer_long : (s : List ℕ) → longest_sheet < length s → refused SheetTooLong 0 ≡ answer_of s
 unfolding judge_of
 answer_long s h = rw (lt-ltb longest_sheet (length s) h)
 
@@ -165,7 +162,7 @@ answer_start s h = rw (le-ltb longest_sheet (length s) h)
 -- ---- what is accepted is what the lines gathered to
 
 never : {A : Type 0} (r : Refusal) (k : ℕ) (c : Content) → Refused r k ≡ Accepted c → A
-never r k c e = absurd (let z : ◌≡◌ {A = ℕ} 0 1 = cc in omega arith)
+never r k c e = absurd (cc)
 
 end_book_lem : (d : Due) (K : Book) (os : List ℕ) (k : ℕ) (c : Content) → at_end d K os k ≡ Accepted c → c ≡ content_of K
 end_book_lem due.HeaderWord K os k c e = never Unended k c e
@@ -198,8 +195,8 @@ run_book d K os k (line l ls) c e =
     go : (j : Judged) → (run (due_after (form_at d K l)) (grow (form_at d K l) l K) (opens (form_at d K l) (k + 1) os) (k + 1) ls ≡ Accepted c → c ≡ content_of (end_book (due_after (form_at d K l)) (grow (form_at d K l) l K) ls))
         → on_judged j (k + 1) (run (due_after (form_at d K l)) (grow (form_at d K l) l K) (opens (form_at d K l) (k + 1) os) (k + 1) ls) ≡ Accepted c
         → c ≡ content_of (onward j K (end_book (due_after (form_at d K l)) (grow (form_at d K l) l K) ls))
-    go judged.Passes ih q = ih q
-    go (judged.Refused r) ih q = never r (k + 1) c q
+    go (Ok _) ih q = ih q
+    go (Err r) ih q = never r (k + 1) c q
 
 pub accepted_book : (s : List ℕ) (c : Content) → judge_of s ≡ Accepted c → c ≡ content_of (book_of s)
 unfolding judge_of book_of

@@ -8,11 +8,11 @@ use native.Mathlib.Omega.{arith}
 use borrow.Author.Tests.{eqb-false}
 use lib.Dec.{eqb}
 use lib.ListN.{length}
+use Rattle.std.specs.Prelude.{Ok}
 use Rattle.text.specs.Fields.{field_count}
 use Rattle.text.specs.Keywords.{keyword_of}
 use Rattle.text.specs.declared.keyword.Keyword.{Keyword}
 use Rattle.text.specs.declared.keyword.Keyword.TheVariants as keyword
-use Rattle.text.specs.declared.refusal.Judged.TheVariants.{Passes}
 use Rattle.lines.specs.Order.{line_judged}
 use Rattle.lineforms.specs.Forms.{by_keyword, word_form, count_form, either_form, opening_form, after_sample_form, form_of, due_after}
 use Rattle.lineforms.specs.declared.due.Due.{Due}
@@ -160,7 +160,7 @@ held due.Nothing K os l h = tt
 
 -- ---- after it
 
-pub stands_step : (f : Form) (K : Book) (os l : List ℕ) (k : ℕ) → Held f K os → Told f K → line_judged true l (tests_of f K l) ≡ Passes → Sound (due_after f) (grow f l K) → Stands (due_after f) (grow f l K) (opens f k os)
+pub stands_step : (f : Form) (K : Book) (os l : List ℕ) (k : ℕ) → Held f K os → Told f K → line_judged true l (tests_of f K l) ≡ Ok tt → Sound (due_after f) (grow f l K) → Stands (due_after f) (grow f l K) (opens f k os)
 stands_step form.Stray K os l k h t e n = never_passes _ (passed form.Stray K l e 3)
 stands_step form.Superframe K os l k h t e n = never_passes _ (passed form.Superframe K l e 3)
 stands_step form.HeaderWord K os l k h t e n = h

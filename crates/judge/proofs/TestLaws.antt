@@ -1,11 +1,9 @@
 -- The tests by the code's counts are the tests of what was gathered. Assumes nothing.
-use mathlib.Core.Path.{◌≡◌, refl, sym, ap, ◌∙◌}
-use mathlib.Core.List.{List, [], ◌∷◌}
+use mathlib.Core.Path.{◌≡◌, refl}
+use mathlib.Core.List.{List, ◌∷◌}
 use Prim.Native.Nat.{ℕ}
-use Rattle.text.specs.Refusals.{first, or_else}
-use Rattle.text.specs.declared.refusal.Judged.{Judged}
-use Rattle.text.specs.declared.refusal.Judged.TheVariants.{Passes, Refused}
-use Rattle.text.proofs.Order.{else_none}
+use Rattle.std.specs.Prelude.{Ok, Err}
+use Rattle.text.specs.Refusals.{Judged, first, or_else}
 use Rattle.lineforms.specs.LineFields.{component_fields}
 use Rattle.lineforms.specs.declared.due.Form.{Form}
 use Rattle.lineforms.specs.declared.due.Form.TheVariants.{Stray, Superframe, HeaderWord, HeaderLine, RecordWord, RecordLine, NoneWord, ParameterWord, NameLine, OpeningComponent, ComponentLine, TimeLine, SamplesEnd, SignedLine, RangeLine, SourceLine, LabelLine, SourceEnd, ParameterEnd}
@@ -37,22 +35,10 @@ tests_gathered LabelLine l K = refl
 tests_gathered SourceEnd l K = refl
 tests_gathered ParameterEnd l K = refl
 
--- two of the tests that the code makes
-second : (j : Judged) (js : List Judged) → or_else j (first js) ≡ first (Passes ∷ j ∷ js)
+second : (j : Judged) (js : List Judged) → or_else j (first js) ≡ first (Ok tt ∷ j ∷ js)
 unfolding first
-second Passes js = refl
-second (Refused r) js = refl
-
-pub parameter_tests : (x : Tally) (ws bs l : List ℕ) → room_for_parameter_in x ≡ form_tests ParameterWord x ws bs l
-unfolding form_tests
-parameter_tests x ws bs l = sym (ap (or_else (room_for_parameter_in x)) none ∙ else_none (room_for_parameter_in x)) ∙ second (room_for_parameter_in x) []
-  where
-    none : first [] ≡ Passes
-    none = unfold first in refl
-
-pub opening_tests : (x : Tally) (ws bs l : List ℕ) → or_else (room_for_sample_in x) (first (component_fields x.declared ws bs l)) ≡ form_tests OpeningComponent x ws bs l
-unfolding form_tests
-opening_tests x ws bs l = second (room_for_sample_in x) (component_fields x.declared ws bs l)
+second (Ok _) js = refl
+second (Err r) js = refl
 
 pub component_tests : (x : Tally) (ws bs l : List ℕ) → or_else (room_for_component_in x) (first (component_fields x.declared ws bs l)) ≡ form_tests ComponentLine x ws bs l
 unfolding form_tests

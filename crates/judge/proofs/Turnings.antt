@@ -2,90 +2,69 @@
 use mathlib.Core.Path.{◌≡◌, refl, ap, ◌∙◌}
 use mathlib.Core.List.{List}
 use Prim.Native.Nat.{ℕ, ◌+◌, ◌-◌, ◌<◌}
-use native.Mathlib.Omega.{arith}
-use lib.ListN.{length, set}
+use lib.ListN.{length}
+use Rattle.std.specs.Prelude.{Ok, Err}
 use Rattle.lay.specs.Bytes.{part}
+use Rattle.text.specs.Refusals.{Judged, says}
+use Rattle.text.proofs.Order.{says_ok}
 use Rattle.text.specs.declared.refusal.Refusal.{Refusal}
-use Rattle.text.specs.declared.refusal.Judged.{Judged}
-use Rattle.text.specs.declared.refusal.Judged.TheVariants as judged
-use Rattle.lines.specs.Line.{line_at}
+use Rattle.lines.specs.Line.{Found, line_at}
 use Rattle.lines.specs.declared.Cursor.{Cursor}
-use Rattle.lines.specs.declared.Found.{Found}
-use Rattle.lines.specs.declared.Found.TheVariants as found
 use Rattle.lines.proofs.Cuts.{Next, found_next}
-use Rattle.lineforms.specs.declared.due.Form.{Form}
-use Rattle.judge.specs.Columns.{pair_set, kept_set, pair_row, text_row, number_row}
-use Rattle.judge.specs.Turns.{form_here, Going, Steady, Gone, judged_in, passed_by, turn_of}
+use Rattle.judge.specs.Rows.{rows_set}
+use Rattle.judge.specs.Turns.{form_here, Going, Steady, Gone, judged_in, turn_of}
+use Rattle.judge.specs.Walk.{refused}
+use Rattle.judge.specs.declared.rows.Rows.{Rows}
 use Rattle.judge.specs.declared.turn.State.{State}
-use Rattle.judge.specs.declared.turn.Turned.TheVariants as turned
-use Rattle.judge.specs.declared.walk.Verdict.TheVariants as verdict
+use Rattle.judge.specs.declared.turn.Passed.{Passed}
 use Rattle.judge.proofs.Runs.{answer_of}
 use Rattle.judge.proofs.Judging.{Judging, judging_pairs, judging_parameters, judging_raw}
 use Rattle.judge.proofs.Judgings.{judging_fitting, judging_refused, judging_steady, judging_next}
 
--- what the code does with a line that it found is a turn
-pub turn_line : (s : List ℕ) (c : Cursor) (t : State) (ps ts : List ℕ) (a e : ℕ) (n : Cursor) → line_at s c ≡ found.Line a e n → {l : List ℕ} → l ≡ part s a (e - a) → {f : Form} → f ≡ form_here t l → {j : Judged} → j ≡ judged_in f s l t ps ts → {i : Judged} → j ≡ i
-    → passed_by i f a e n ≡ turn_of (line_at s c) s t ps ts
-turn_line s c t ps ts a e n h el ef ej ei = rw (h, ← el, ← ef, ← ej, ei)
+says_err : (j : Judged) (v : Passed) (q : Refusal) → says j v ≡ Err q → j ≡ Err q
+says_err (Ok _) v q e = absurd (cc)
+says_err (Err r) v q e = let i : r ≡ q = cc in ap Err i
 
 -- a line that passed
-pub record Went (s : List ℕ) (c : Cursor) (t : State) (ps ts : List ℕ) (f : Form) (a e : ℕ) (n : Cursor) (l : List ℕ) : Type 0 where
-  pub next : Next s c a e n
-  pub form : f ≡ form_here t l
-  pub passes : judged_in f s l t ps ts ≡ judged.Passes
+pub record Went (s : List ℕ) (c : Cursor) (t : State) (rs : Rows) (p : Passed) (l : List ℕ) : Type 0 where
+  pub next : Next s c p.line.start p.line.end p.line.next
+  pub form : p.form ≡ form_here t l
+  pub passes : judged_in p.form s l t rs ≡ Ok tt
 
-module _ {s ps ts ns ks : List ℕ} {c : Cursor} {t : State} (w : Judging s ps ts ns ks c t) where
-  pub turn_going : Going s c t ps ts
+module _ {s : List ℕ} {rs : Rows} {c : Cursor} {t : State} (w : Judging s rs c t) where
+  pub turn_going : Going s c t
   turn_going =
       record {
         ready = w.ready;
-        known = record { few = judging_pairs w; fewer = judging_parameters w; pairs = w.pairs; texts = w.texts };
+        known = record { few = judging_pairs w; fewer = judging_parameters w };
         fitting = λ l. judging_fitting w l refl;
       }
 
-  line_refused : (q : Refusal) (a e : ℕ) (n : Cursor) → line_at s c ≡ found.Line a e n → (j : Judged) → judged_in (form_here t (part s a (e - a))) s (part s a (e - a)) t ps ts ≡ j
-      → passed_by j (form_here t (part s a (e - a))) a e n ≡ turned.Refused q → verdict.Refused q (c.number + 1) ≡ answer_of s
-  line_refused q a e n p judged.Passes r m = let o : ◌≡◌ {A = ℕ} 0 1 = cc in absurd (omega arith)
-  line_refused q a e n p (judged.Refused u) r m =
-      let i : u ≡ q = cc in
-      judging_refused w (part s a (e - a)) refl (found_next s c w.ready a e n p) refl q (r ∙ ap judged.Refused i)
+  found_refusal : c.at < length s → (q : Refusal) (z : Found) → line_at s c ≡ z → turn_of z s t rs ≡ Err q → refused q (c.number + 1) ≡ answer_of s
+  found_refusal h q (Err u) p m = let i : u ≡ q = cc in judging_raw w h q (p ∙ ap Err i)
+  found_refusal h q (Ok l) p m =
+      let b = part s l.start (l.end - l.start) in
+      judging_refused w b refl (found_next s c w.ready l p) refl q (says_err (judged_in (form_here t b) s b t rs) (record { form = form_here t b; line = l }) q m)
 
-  found_refusal : c.at < length s → (q : Refusal) (z : Found) → line_at s c ≡ z → turn_of z s t ps ts ≡ turned.Refused q → verdict.Refused q (c.number + 1) ≡ answer_of s
-  found_refusal h q (found.Refused u) p m =
-      let i : u ≡ q = cc in
-      judging_raw w h q (p ∙ ap found.Refused i)
-  found_refusal h q (found.Line a e n) p m = line_refused q a e n p (judged_in (form_here t (part s a (e - a))) s (part s a (e - a)) t ps ts) refl m
-
-  pub turn_refused : c.at < length s → (q : Refusal) → turn_of (line_at s c) s t ps ts ≡ turned.Refused q → verdict.Refused q (c.number + 1) ≡ answer_of s
+  pub turn_refused : c.at < length s → (q : Refusal) → turn_of (line_at s c) s t rs ≡ Err q → refused q (c.number + 1) ≡ answer_of s
   turn_refused h q m = found_refusal h q (line_at s c) refl m
 
-  line_passed : (f : Form) (a e : ℕ) (n : Cursor) (b d : ℕ) (o : Cursor) → line_at s c ≡ found.Line b d o → (j : Judged) → judged_in (form_here t (part s b (d - b))) s (part s b (d - b)) t ps ts ≡ j
-      → passed_by j (form_here t (part s b (d - b))) b d o ≡ turned.Passed f a e n → Went s c t ps ts f a e n (part s a (e - a))
-  line_passed f a e n b d o p judged.Passes r m =
-      let ia : a ≡ b = cc in
-      let ie : e ≡ d = cc in
-      let io : n ≡ o = cc in
-      let if : f ≡ form_here t (part s b (d - b)) = cc in
-      rw (if, ia, ie, io) (record { next = found_next s c w.ready b d o p; form = refl; passes = r })
-  line_passed f a e n b d o p (judged.Refused u) r m = let z : ◌≡◌ {A = ℕ} 0 1 = cc in absurd (omega arith)
+  found_passed : (p : Passed) (z : Found) → line_at s c ≡ z → turn_of z s t rs ≡ Ok p → Went s c t rs p (part s p.line.start (p.line.end - p.line.start))
+  found_passed p (Err u) h m = absurd (cc)
+  found_passed p (Ok l) h m =
+      let b = part s l.start (l.end - l.start) in
+      let e = says_ok (judged_in (form_here t b) s b t rs) (record { form = form_here t b; line = l }) p m in
+      rw e.1 (record { next = found_next s c w.ready l h; form = refl; passes = e.0 })
 
-  found_passed : (f : Form) (a e : ℕ) (n : Cursor) (z : Found) → line_at s c ≡ z → turn_of z s t ps ts ≡ turned.Passed f a e n → Went s c t ps ts f a e n (part s a (e - a))
-  found_passed f a e n (found.Refused u) p m = let z : ◌≡◌ {A = ℕ} 0 1 = cc in absurd (omega arith)
-  found_passed f a e n (found.Line b d o) p m = line_passed f a e n b d o p (judged_in (form_here t (part s b (d - b))) s (part s b (d - b)) t ps ts) refl m
+  module _ {p : Passed} (m : turn_of (line_at s c) s t rs ≡ Ok p) where
+    went : {l : List ℕ} → l ≡ part s p.line.start (p.line.end - p.line.start) → Went s c t rs p l
+    went el = rw el (found_passed p (line_at s c) refl m)
 
-  module _ {f : Form} {a e : ℕ} {n : Cursor} (m : turn_of (line_at s c) s t ps ts ≡ turned.Passed f a e n) where
-    went : {l : List ℕ} → l ≡ part s a (e - a) → Went s c t ps ts f a e n l
-    went el = rw el (found_passed f a e n (line_at s c) refl m)
-
-    pub turn_next : Next s c a e n
+    pub turn_next : Next s c p.line.start p.line.end p.line.next
     turn_next = (went refl).next
 
-    pub turn_steady : {l : List ℕ} → l ≡ part s a (e - a) → Steady f l a t
+    pub turn_steady : {l : List ℕ} → l ≡ part s p.line.start (p.line.end - p.line.start) → Steady p.form l p.line.start t
     turn_steady {l} el = judging_steady w l (went el).form turn_next el (went el).passes
 
-    pub turn_on : {l : List ℕ} → l ≡ part s a (e - a) → {qs us ms : List ℕ} {r : State}
-        → qs ≡ pair_set t.counts.pairs (pair_row f l) ps
-        → us ≡ kept_set t.counts.parameters (text_row t.here) ts
-        → ms ≡ kept_set t.counts.parameters (number_row t.counts t.sample) ns → Gone f l a t r
-        → Judging s qs us ms (set ks t.begun (c.number + 1)) n r
-    turn_on {l} el eq eu em g = judging_next w l (went el).form turn_next el (went el).passes eq eu em g
+    pub turn_on : {l : List ℕ} → l ≡ part s p.line.start (p.line.end - p.line.start) → {qs : Rows} {r : State} → qs ≡ rows_set p.form l t rs → Gone p.form l p.line.start (c.number + 1) t r → Judging s qs p.line.next r
+    turn_on {l} el eq g = judging_next w l (went el).form turn_next el (went el).passes eq g

@@ -1,5 +1,5 @@
 -- Not part of the meaning: what the code keeps of a record pair and of a parameter.
-use Rattle.std.specs.Prelude.{ℕ, ◌^◌, List, [], ◌∷◌, Bool, true, false, cond, not, ◌&&◌, eqb, ltb, length, get_or}
+use Rattle.std.specs.Prelude.{ℕ, ◌^◌, List, Bool, true, false, cond, not, ◌&&◌, eqb, ltb, length, get_or}
 use Rattle.lay.specs.Below.{all}
 use Rattle.lineforms.specs.Said.{pair_in}
 use Rattle.lineforms.specs.declared.due.Form.{Form}
@@ -37,33 +37,7 @@ words_said f l = cond (is_record_line f) (pair_in l).words 0
 abbrev pub bits_said : Form → List ℕ → ℕ
 bits_said f l = cond (is_record_line f) (pair_in l).bits 0
 
--- how many parameters a line begins
-abbrev pub opened_by : Form → ℕ
-opened_by Stray = 0
-opened_by Superframe = 0
-opened_by HeaderWord = 0
-opened_by HeaderLine = 0
-opened_by RecordWord = 0
-opened_by RecordLine = 0
-opened_by NoneWord = 0
-opened_by ParameterWord = 1
-opened_by NameLine = 0
-opened_by OpeningComponent = 0
-opened_by ComponentLine = 0
-opened_by TimeLine = 0
-opened_by SamplesEnd = 0
-opened_by SignedLine = 0
-opened_by RangeLine = 0
-opened_by SourceLine = 0
-opened_by LabelLine = 0
-opened_by SourceEnd = 0
-opened_by ParameterEnd = 0
-
--- ---- of each parameter, in their order
-
-unfoldable pub row : {A : Type 0} → (Parameter → A) → List Parameter → List A
-row f [] = []
-row f (p ∷ ps) = f p ∷ row f ps
+-- ---- of a parameter
 
 -- the subframe of the first component; whether all lie there
 unfoldable pub home_in : List Component → ℕ
@@ -72,18 +46,12 @@ home_in cs = (get_or cs 0 no_component).subframe
 unfoldable pub alone_in : List Component → Bool
 alone_in cs = all (length cs) (λ k. eqb (get_or cs k no_component).subframe (home_in cs))
 
-unfoldable pub flag_of : Parameter → ℕ
-flag_of p = cond p.identifier 1 0
-
 unfoldable pub is_good : Parameter → Bool
 is_good p =
     p.identifier
     && (eqb (length p.samples) 1
     && (alone_in (sample p 0).components
     && (not p.signed && ltb p.value (2 ^ given (sample p 0).components))))
-
-unfoldable pub good_of : Parameter → ℕ
-good_of p = cond (is_good p) 1 0
 
 unfoldable pub home_of : Parameter → ℕ
 home_of p = home_in (sample p 0).components

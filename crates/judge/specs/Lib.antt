@@ -4,6 +4,6 @@ pub mod Sixteen
 pub mod LineTests
 pub mod Sampling
 pub mod Keeping
-pub mod Columns
+pub mod Rows
 pub mod Turns
 pub mod Walk

@@ -1,9 +1,7 @@
 -- Not part of the meaning: the tests of a line by the code's counts, in place of what was gathered.
-use Rattle.std.specs.Prelude.{ℕ, ◌≤◌, ◌≡◌, ◌||◌, List, [], ◌∷◌, leb}
-use Rattle.text.specs.Refusals.{when, first}
+use Rattle.std.specs.Prelude.{ℕ, ◌≤◌, ◌≡◌, ◌||◌, List, [], ◌∷◌, leb, Ok}
+use Rattle.text.specs.Refusals.{Judged, when, first}
 use Rattle.text.specs.declared.refusal.Refusal.TheVariants.{TooMany}
-use Rattle.text.specs.declared.refusal.Judged.{Judged}
-use Rattle.text.specs.declared.refusal.Judged.TheVariants.{Passes}
 use Rattle.lineforms.specs.LineFields.{header_fields, record_fields, name_fields, component_fields, time_fields, signed_fields, range_fields, source_fields, label_fields}
 use Rattle.lineforms.specs.declared.due.Form.{Form}
 use Rattle.lineforms.specs.declared.due.Form.TheVariants.{Stray, Superframe, HeaderWord, HeaderLine, RecordWord, RecordLine, NoneWord, ParameterWord, NameLine, OpeningComponent, ComponentLine, TimeLine, SamplesEnd, SignedLine, RangeLine, SourceLine, LabelLine, SourceEnd, ParameterEnd}
@@ -27,25 +25,25 @@ room_for_component_in x =
     when (leb sheet_limits.components_each x.parts || leb sheet_limits.components x.components) TooMany
 
 abbrev pub room_in : Form → Tally → Judged
-room_in Stray x = Passes
-room_in Superframe x = Passes
-room_in HeaderWord x = Passes
-room_in HeaderLine x = Passes
-room_in RecordWord x = Passes
-room_in RecordLine x = Passes
-room_in NoneWord x = Passes
+room_in Stray x = Ok tt
+room_in Superframe x = Ok tt
+room_in HeaderWord x = Ok tt
+room_in HeaderLine x = Ok tt
+room_in RecordWord x = Ok tt
+room_in RecordLine x = Ok tt
+room_in NoneWord x = Ok tt
 room_in ParameterWord x = room_for_parameter_in x
-room_in NameLine x = Passes
+room_in NameLine x = Ok tt
 room_in OpeningComponent x = room_for_sample_in x
 room_in ComponentLine x = room_for_component_in x
-room_in TimeLine x = Passes
-room_in SamplesEnd x = Passes
-room_in SignedLine x = Passes
-room_in RangeLine x = Passes
-room_in SourceLine x = Passes
-room_in LabelLine x = Passes
-room_in SourceEnd x = Passes
-room_in ParameterEnd x = Passes
+room_in TimeLine x = Ok tt
+room_in SamplesEnd x = Ok tt
+room_in SignedLine x = Ok tt
+room_in RangeLine x = Ok tt
+room_in SourceLine x = Ok tt
+room_in LabelLine x = Ok tt
+room_in SourceEnd x = Ok tt
+room_in ParameterEnd x = Ok tt
 
 abbrev pub fields_in : Form → Tally → List ℕ → List ℕ → List ℕ → List Judged
 fields_in Stray x ws bs l = []

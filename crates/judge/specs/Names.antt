@@ -1,61 +1,60 @@
 -- Not part of the meaning: texts of a sheet by their places, as the code keeps those of earlier parameters.
-use Rattle.std.specs.Prelude.{ℕ, suc, ◌+◌, ◌-◌, List, [], ◌∷◌, Bool, true, cond, not, ◌&&◌, ◌||◌, ltb, length}
+use Rattle.std.specs.Prelude.{ℕ, ◌+◌, ◌-◌, List, [], Bool, cond, not, ◌&&◌, ◌||◌, ltb, length, Ok}
+use Rattle.std.specs.List.{list_all}
 use Rattle.lay.specs.Bytes.{same, part}
 use Rattle.text.specs.Blanks.{is_empty}
 use Rattle.text.specs.Fields.{field_of, field_at}
-use Rattle.text.specs.Refusals.{when}
+use Rattle.text.specs.Refusals.{Judged, when}
 use Rattle.text.specs.declared.refusal.Refusal.TheVariants.{Repeated}
-use Rattle.text.specs.declared.refusal.Judged.{Judged}
-use Rattle.text.specs.declared.refusal.Judged.TheVariants.{Passes}
 use Rattle.lineforms.specs.declared.due.Form.{Form}
 use Rattle.lineforms.specs.declared.due.Form.TheVariants.{Stray, Superframe, HeaderWord, HeaderLine, RecordWord, RecordLine, NoneWord, ParameterWord, NameLine, OpeningComponent, ComponentLine, TimeLine, SamplesEnd, SignedLine, RangeLine, SourceLine, LabelLine, SourceEnd, ParameterEnd}
-use Rattle.judge.specs.Columns.{first_kept}
 use Rattle.judge.specs.declared.names.Place.{Place}
 use Rattle.judge.specs.declared.names.Places.{Places}
+use Rattle.judge.specs.declared.rows.Kept.{Kept}
 
-unfoldable pub text_at : List ℕ → ℕ → ℕ → List ℕ
-text_at s a e = cond (ltb e a || ltb (length s) e) [] (part s a (e - a))
+unfoldable pub text_at : List ℕ → Place → List ℕ
+text_at s p = cond (ltb p.end p.start || ltb (length s) p.end) [] (part s p.start (p.end - p.start))
 
-unfoldable pub texts_at : List ℕ → List ℕ → List ℕ → List (List ℕ)
-texts_at s [] ends = []
-texts_at s (a ∷ starts) [] = []
-texts_at s (a ∷ starts) (e ∷ ends) = text_at s a e ∷ texts_at s starts ends
+-- another text than t stands at p
+abbrev pub differs_in : List ℕ → List ℕ → Place → Bool
+differs_in s t p = not (same (text_at s p) t)
 
--- the first p of those whose starts stand in column k, and their ends in the column behind
-abbrev pub texts_in : List ℕ → ℕ → ℕ → List ℕ → List (List ℕ)
-texts_in s k p ts = texts_at s (first_kept k p ts) (first_kept (suc k) p ts)
+-- no parameter has this name, mnemonic or identification
+abbrev pub new_name_in : List ℕ → List Kept → List ℕ → Bool
+new_name_in s ks t = list_all (λ k. differs_in s t k.places.name) ks
 
--- none of the texts is this one
-unfoldable pub unlike_all : List (List ℕ) → List ℕ → Bool
-unlike_all [] t = true
-unlike_all (x ∷ xs) t = not (same x t) && unlike_all xs t
+abbrev pub new_mnemonic_in : List ℕ → List Kept → List ℕ → Bool
+new_mnemonic_in s ks t = list_all (λ k. differs_in s t k.places.mnemonic) ks
 
--- a 7-field line's name, and its mnemonic and identification where they are not empty, are none of these
-unfoldable pub unlike_names : List (List ℕ) → List (List ℕ) → List (List ℕ) → List ℕ → Bool
-unlike_names ns ms is l =
-    unlike_all ns (field_of 0 l)
-    && ((is_empty (field_of 1 l) || unlike_all ms (field_of 1 l)) && (is_empty (field_of 2 l) || unlike_all is (field_of 2 l)))
+abbrev pub new_identification_in : List ℕ → List Kept → List ℕ → Bool
+new_identification_in s ks t = list_all (λ k. differs_in s t k.places.identification) ks
 
-abbrev pub names_in : Form → List (List ℕ) → List (List ℕ) → List (List ℕ) → List ℕ → Judged
-names_in Stray ns ms is l = Passes
-names_in Superframe ns ms is l = Passes
-names_in HeaderWord ns ms is l = Passes
-names_in HeaderLine ns ms is l = Passes
-names_in RecordWord ns ms is l = Passes
-names_in RecordLine ns ms is l = Passes
-names_in NoneWord ns ms is l = Passes
-names_in ParameterWord ns ms is l = Passes
-names_in NameLine ns ms is l = when (not (unlike_names ns ms is l)) Repeated
-names_in OpeningComponent ns ms is l = Passes
-names_in ComponentLine ns ms is l = Passes
-names_in TimeLine ns ms is l = Passes
-names_in SamplesEnd ns ms is l = Passes
-names_in SignedLine ns ms is l = Passes
-names_in RangeLine ns ms is l = Passes
-names_in SourceLine ns ms is l = Passes
-names_in LabelLine ns ms is l = Passes
-names_in SourceEnd ns ms is l = Passes
-names_in ParameterEnd ns ms is l = Passes
+-- a 7-field line's name, and its mnemonic and identification where they are not empty, are none of these parameters'
+unfoldable pub unlike_names : List ℕ → List Kept → List ℕ → Bool
+unlike_names s ks l =
+    new_name_in s ks (field_of 0 l)
+    && ((is_empty (field_of 1 l) || new_mnemonic_in s ks (field_of 1 l)) && (is_empty (field_of 2 l) || new_identification_in s ks (field_of 2 l)))
+
+abbrev pub names_in : Form → List ℕ → List Kept → List ℕ → Judged
+names_in Stray s ks l = Ok tt
+names_in Superframe s ks l = Ok tt
+names_in HeaderWord s ks l = Ok tt
+names_in HeaderLine s ks l = Ok tt
+names_in RecordWord s ks l = Ok tt
+names_in RecordLine s ks l = Ok tt
+names_in NoneWord s ks l = Ok tt
+names_in ParameterWord s ks l = Ok tt
+names_in NameLine s ks l = when (not (unlike_names s ks l)) Repeated
+names_in OpeningComponent s ks l = Ok tt
+names_in ComponentLine s ks l = Ok tt
+names_in TimeLine s ks l = Ok tt
+names_in SamplesEnd s ks l = Ok tt
+names_in SignedLine s ks l = Ok tt
+names_in RangeLine s ks l = Ok tt
+names_in SourceLine s ks l = Ok tt
+names_in LabelLine s ks l = Ok tt
+names_in SourceEnd s ks l = Ok tt
+names_in ParameterEnd s ks l = Ok tt
 
 -- ---- places of the open parameter's texts
 

@@ -1,12 +1,10 @@
 -- Not part of the meaning: what the code keeps of the open sample and of the open parameter's first one.
-use Rattle.std.specs.Prelude.{ℕ, ◌+◌, ◌-◌, ◌*◌, ◌<◌, ◌≤◌, true, false, cond, not, ◌&&◌, ◌||◌, List, [], ◌∷◌, ◌++◌, ◌≡◌, eqb, leb, ltb}
+use Rattle.std.specs.Prelude.{ℕ, ◌+◌, ◌-◌, ◌*◌, ◌<◌, ◌≤◌, true, false, cond, not, ◌&&◌, ◌||◌, List, [], ◌∷◌, ◌++◌, ◌≡◌, eqb, leb, ltb, Ok}
 use Rattle.sample.specs.Clash.{twice}
 use Rattle.sample.specs.Promise.{listed}
 use Rattle.sample.specs.declared.component.Component.{Component as Piece}
-use Rattle.text.specs.Refusals.{when}
+use Rattle.text.specs.Refusals.{Judged, when}
 use Rattle.text.specs.declared.refusal.Refusal.TheVariants.{BadSample}
-use Rattle.text.specs.declared.refusal.Judged.{Judged}
-use Rattle.text.specs.declared.refusal.Judged.TheVariants.{Passes}
 use Rattle.lineforms.specs.Said.{part_in}
 use Rattle.lineforms.specs.declared.due.Form.{Form}
 use Rattle.lineforms.specs.declared.due.Form.TheVariants.{Stray, Superframe, HeaderWord, HeaderLine, RecordWord, RecordLine, NoneWord, ParameterWord, NameLine, OpeningComponent, ComponentLine, TimeLine, SamplesEnd, SignedLine, RangeLine, SourceLine, LabelLine, SourceEnd, ParameterEnd}
@@ -72,25 +70,25 @@ joined_in g p =
     BadSample
 
 abbrev pub sample_in : Form → List ℕ → Sampling → ℕ → Judged
-sample_in Stray l g own = Passes
-sample_in Superframe l g own = Passes
-sample_in HeaderWord l g own = Passes
-sample_in HeaderLine l g own = Passes
-sample_in RecordWord l g own = Passes
-sample_in RecordLine l g own = Passes
-sample_in NoneWord l g own = Passes
-sample_in ParameterWord l g own = Passes
-sample_in NameLine l g own = Passes
+sample_in Stray l g own = Ok tt
+sample_in Superframe l g own = Ok tt
+sample_in HeaderWord l g own = Ok tt
+sample_in HeaderLine l g own = Ok tt
+sample_in RecordWord l g own = Ok tt
+sample_in RecordLine l g own = Ok tt
+sample_in NoneWord l g own = Ok tt
+sample_in ParameterWord l g own = Ok tt
+sample_in NameLine l g own = Ok tt
 sample_in OpeningComponent l g own = joined_in g (part_in l)
 sample_in ComponentLine l g own = joined_in g (part_in l)
 sample_in TimeLine l g own = width_test_in own g.lapped g.width g.first
-sample_in SamplesEnd l g own = Passes
-sample_in SignedLine l g own = Passes
-sample_in RangeLine l g own = Passes
-sample_in SourceLine l g own = Passes
-sample_in LabelLine l g own = Passes
-sample_in SourceEnd l g own = Passes
-sample_in ParameterEnd l g own = Passes
+sample_in SamplesEnd l g own = Ok tt
+sample_in SignedLine l g own = Ok tt
+sample_in RangeLine l g own = Ok tt
+sample_in SourceLine l g own = Ok tt
+sample_in LabelLine l g own = Ok tt
+sample_in SourceEnd l g own = Ok tt
+sample_in ParameterEnd l g own = Ok tt
 
 -- there is room for one component more
 pub record Roomy (g : Sampling) : Type 0 where

@@ -1,29 +1,29 @@
 -- Not part of the meaning: where the run over the lines ends, and the judge's answer.
-use Rattle.std.specs.Prelude.{ℕ, ◌+◌, ◌*◌, ◌≤◌, ◌≡◌, Bool, true, false, cond, List, eqb, ltb, length, take, get_or}
-use Rattle.lay.specs.Below.{all, find}
+use Rattle.std.specs.Prelude.{ℕ, ◌+◌, Bool, true, false, cond, List, Option, Some, None, Result, Ok, Err, eqb, take, get_or}
+use Rattle.lay.specs.Below.{all}
+use Rattle.text.specs.Refusals.{Judged}
+use Rattle.text.specs.declared.refusal.Refusal.{Refusal}
 use Rattle.text.specs.declared.refusal.Refusal.TheVariants.{Unended, BadIdentifiers}
-use Rattle.text.specs.declared.refusal.Judged.{Judged}
-use Rattle.text.specs.declared.refusal.Judged.TheVariants as judged
 use Rattle.lines.specs.Lines.{Lines, none, unended, line, lines_of}
 use Rattle.lines.specs.Order.{line_judged}
 use Rattle.lineforms.specs.Forms.{due_after}
 use Rattle.lineforms.specs.declared.due.Due.{Due}
 use Rattle.lineforms.specs.declared.due.Due.TheVariants as due
-use Rattle.model.specs.Forms.{sheet_limits}
 use Rattle.gather.specs.Book.{Book, empty_book, grow}
 use Rattle.gather.specs.Tests.{tests_of}
 use Rattle.gather.specs.Ruling.{Ruling, Accepted, Refused, form_at}
-use Rattle.judge.specs.Columns.{pair_rows, parameter_rows, first_kept}
-use Rattle.judge.specs.Sixteen.{bad_in, taken_in}
+use Rattle.judge.specs.Rows.{no_kept}
+use Rattle.judge.specs.Sixteen.{first_bad_in, taken_in}
+use Rattle.judge.specs.declared.rows.Kept.{Kept}
+use Rattle.judge.specs.declared.rows.Rows.{Rows}
 use Rattle.judge.specs.declared.tally.Tally.{Tally}
 use Rattle.judge.specs.declared.turn.State.{State}
-use Rattle.judge.specs.declared.walk.Verdict.{Verdict}
-use Rattle.judge.specs.declared.walk.Verdict.TheVariants as verdict
+use Rattle.judge.specs.declared.walk.Rejected.{Rejected}
 
 -- the Book after the last line reached
 abbrev pub onward : Judged → Book → Book → Book
-onward judged.Passes K B = B
-onward (judged.Refused q) K B = K
+onward (Ok _) K B = B
+onward (Err q) K B = K
 
 unfoldable pub end_book : Due → Book → Lines → Book
 end_book d K none = K
@@ -34,10 +34,17 @@ end_book d K (line l ls) =
 unfoldable pub book_of : List ℕ → Book
 book_of s = end_book due.HeaderWord empty_book (lines_of s)
 
+-- accepted with what the lines count up to, or refused at a line
+abbrev pub Verdict : Type 0
+Verdict = Result Tally Rejected
+
+abbrev pub refused : Refusal → ℕ → Verdict
+refused q k = Err (record { refusal = q; line = k })
+
 -- the answer: accepted with the counts x, or refused at a line
 abbrev pub verdict_of : Ruling → Tally → Verdict
-verdict_of (Accepted c) x = verdict.Accepted x
-verdict_of (Refused q k) x = verdict.Refused q k
+verdict_of (Accepted c) x = Ok x
+verdict_of (Refused q k) x = refused q k
 
 -- no line is due: the sheet may end
 abbrev pub may_end : Due → Bool
@@ -59,30 +66,18 @@ may_end due.AfterSourceBlank = false
 may_end due.NextParameter = true
 may_end due.Nothing = true
 
+-- v, unless there is a bad one
+abbrev pub unless : Option ℕ → (ℕ → Verdict) → Verdict → Verdict
+unless (Some i) f v = f i
+unless None f v = v
+
 -- 16 by what is kept of each parameter
-unfoldable pub identified_in : Tally → List ℕ → List ℕ → List ℕ → List ℕ → List ℕ → Verdict
-identified_in x fs gs hs vs os =
-    cond (eqb x.parameters 0) (verdict.Accepted x)
-    (cond (ltb (find (length fs) (bad_in fs gs hs vs)) (length fs)) (verdict.Refused BadIdentifiers (get_or os (find (length fs) (bad_in fs gs hs vs)) 0))
-    (cond (all x.declared (λ s. taken_in fs hs (s + 1))) (verdict.Accepted x) (verdict.Refused BadIdentifiers 0)))
+unfoldable pub identified_in : Tally → List Kept → Verdict
+identified_in x ks =
+    cond (eqb x.parameters 0) (Ok x)
+    (unless (first_bad_in ks) (λ i. refused BadIdentifiers (get_or ks i no_kept).opened_at)
+    (cond (all x.declared (λ s. taken_in ks (s + 1))) (Ok x) (refused BadIdentifiers 0)))
 
 -- after the last line, by what is kept: 4 at the line that is missing, or 16
-unfoldable pub ended_in : State → ℕ → List ℕ → List ℕ → Verdict
-ended_in t k ns os =
-    cond (may_end t.due)
-    (let p = t.counts.parameters in
-    identified_in t.counts (first_kept 0 p ns) (first_kept 1 p ns) (first_kept 2 p ns) (first_kept 3 p ns) (take p os))
-    (verdict.Refused Unended k)
-
-pub record Ended (t : State) (ns os : List ℕ) : Type 0 where
-  pub few : t.counts.parameters ≤ sheet_limits.parameters
-  pub numbers : length ns ≡ 4 * parameter_rows
-  pub marks : length os ≡ parameter_rows
-
--- a sheet that is not too long, and room for what is kept of it
-pub record Room (s ps ts ns os : List ℕ) : Type 0 where
-  pub short : length s ≤ 65536
-  pub pairs : length ps ≡ 2 * pair_rows
-  pub texts : length ts ≡ 6 * parameter_rows
-  pub numbers : length ns ≡ 4 * parameter_rows
-  pub marks : length os ≡ parameter_rows
+unfoldable pub ended_in : State → ℕ → Rows → Verdict
+ended_in t k r = cond (may_end t.due) (identified_in t.counts (take t.counts.parameters r.kept)) (refused Unended k)

@@ -1,95 +1,67 @@
 // 15: names of earlier parameters, kept as places in the sheet.
-ghost use Rattle.std.specs.Prelude.{◌≡◌, not, ◌||◌, ◌*◌, ◌≤◌, length};
-ghost use Rattle.text.specs.Blanks.{is_empty};
-ghost use Rattle.model.specs.Forms.{sheet_limits};
-ghost use Rattle.judge.specs.Columns.{parameter_rows};
-ghost use Rattle.judge.specs.Names.{text_at, texts_at, texts_in, unlike_all, unlike_names, names_in, place_in, no_places, places_after};
-ghost use Rattle.text.specs.Refusals.{when};
-ghost use Rattle.text.specs.declared.refusal.Refusal.TheVariants.{Repeated};
+ghost use Rattle.std.specs.Prelude.{◌≡◌, ◌*◌, ◌≤◌, length};
+ghost use Rattle.judge.specs.Names.{text_at, differs_in, new_name_in, new_mnemonic_in, new_identification_in, unlike_names, names_in, place_in, no_places, places_after};
 
-use crate::columns::{FIFTH, FOURTH, SECOND, SIXTH, THIRD, places_column};
+use crate::rows::Kept;
+use crate::tests::refused_if;
 use lay::same_text;
 use lineforms::due::Form;
 use text::field::{field_at, field_of};
-use text::part::between;
-use text::refusal::{Judged, Refusal};
+use text::refusal::Refusal;
 
 // The text at a place; nothing where the sheet has no such place.
-fn text_at(sheet: &[u8], start: usize, end: usize) -> &[u8]
-    ensures { result.now ≡ text_at sheet.now start end }
+fn text_at(sheet: &[u8], place: Place) -> &[u8]
+    ensures { result.now ≡ text_at sheet.now place }
 {
-    if end < start {
-        return between(sheet, 0, 0);
-    }
-    if sheet.len() < end {
-        return between(sheet, 0, 0);
-    }
-    between(sheet, start, end)
+    sheet.get(place.start..place.end).unwrap_or(&[])
 }
 
-// Whether none of the texts at these places is this one.
-fn unlike(sheet: &[u8], starts: &[usize], ends: &[usize], text: &[u8]) -> bool
-    requires { length starts.now ≡ length ends.now }
-    ensures { result ≡ unlike_all (texts_at sheet.now starts.now ends.now) text.now }
+// Whether another text stands at a place.
+fn differs(sheet: &[u8], place: Place, text: &[u8]) -> bool
+    ensures { result ≡ differs_in sheet.now text.now place }
 {
-    let mut i = 0;
-    while i < starts.len() {
-        if same_text(text_at(sheet, starts[i], ends[i]), text) {
-            return false;
-        }
-        i += 1;
-    }
-    true
+    !same_text(text_at(sheet, place), text)
 }
 
-// The same of a text that may be empty: an empty one is like no other.
-fn unlike_or_empty(sheet: &[u8], starts: &[usize], ends: &[usize], text: &[u8]) -> bool
-    requires { length starts.now ≡ length ends.now }
-    ensures { result ≡ (is_empty text.now || unlike_all (texts_at sheet.now starts.now ends.now) text.now) }
+// Whether no parameter has this name; this mnemonic; this identification. (Three functions: a field cannot be an argument.)
+fn is_new_name(sheet: &[u8], kept: &[Kept], name: &[u8]) -> bool
+    ensures { result ≡ new_name_in sheet.now kept.now name.now }
 {
-    if text.len() == 0 {
-        return true;
-    }
-    unlike(sheet, starts, ends, text)
+    kept.iter().all(|k| differs(sheet, k.places.name, name))
 }
 
-// Whether a 7-field line's texts are none of those of the first p parameters.
-fn unlike_names(sheet: &[u8], line: &[u8], texts: &[usize], p: usize) -> bool
-    requires { (p ≤ sheet_limits.parameters) × (length texts.now ≡ 6 * parameter_rows) }
-    ensures { result ≡ unlike_names (texts_in sheet.now 0 p texts.now) (texts_in sheet.now 2 p texts.now) (texts_in sheet.now 4 p texts.now) line.now }
+fn is_new_mnemonic(sheet: &[u8], kept: &[Kept], mnemonic: &[u8]) -> bool
+    ensures { result ≡ new_mnemonic_in sheet.now kept.now mnemonic.now }
 {
-    let a = places_column(texts, 0, p);
-    let b = places_column(texts, SECOND, p);
-    let c = places_column(texts, THIRD, p);
-    let d = places_column(texts, FOURTH, p);
-    let e = places_column(texts, FIFTH, p);
-    let f = places_column(texts, SIXTH, p);
-    if !unlike(sheet, a, b, field_of(line, 0)) {
-        return false;
-    }
-    if !unlike_or_empty(sheet, c, d, field_of(line, 1)) {
-        return false;
-    }
-    unlike_or_empty(sheet, e, f, field_of(line, 2))
+    kept.iter()
+        .all(|k| differs(sheet, k.places.mnemonic, mnemonic))
 }
 
-fn repeated_unless(apart: bool) -> Judged
-    ensures { result ≡ when (not apart) Repeated }
+fn is_new_identification(sheet: &[u8], kept: &[Kept], identification: &[u8]) -> bool
+    ensures { result ≡ new_identification_in sheet.now kept.now identification.now }
 {
-    if apart {
-        return Judged::Passes;
-    }
-    Judged::Refused(Refusal::Repeated)
+    kept.iter().all(|k| differs(sheet, k.places.identification, identification))
+}
+
+// Whether a 7-field line's texts are none of those of these parameters. An empty mnemonic or identification is like no other.
+#[tactic(auto, unfolding(crate::specs::Names::unlike_names))]
+fn unlike_names(sheet: &[u8], line: &[u8], kept: &[Kept]) -> bool
+    ensures { result ≡ unlike_names sheet.now kept.now line.now }
+{
+    let mnemonic = field_of(line, 1);
+    let identification = field_of(line, 2);
+    is_new_name(sheet, kept, field_of(line, 0))
+        && (mnemonic.is_empty() || is_new_mnemonic(sheet, kept, mnemonic))
+        && (identification.is_empty() || is_new_identification(sheet, kept, identification))
 }
 
 // 15 of a line, by what it turned out to be.
-pub fn names_judged(form: Form, sheet: &[u8], line: &[u8], texts: &[usize], p: usize) -> Judged
-    requires { (p ≤ sheet_limits.parameters) × (length texts.now ≡ 6 * parameter_rows) }
-    ensures { result ≡ names_in form (texts_in sheet.now 0 p texts.now) (texts_in sheet.now 2 p texts.now) (texts_in sheet.now 4 p texts.now) line.now }
+pub fn names_judged(form: Form, sheet: &[u8], line: &[u8], kept: &[Kept]) -> Result<(), Refusal>
+    ensures { result ≡ names_in form sheet.now kept.now line.now }
 {
     match form {
-        Form::NameLine => repeated_unless(unlike_names(sheet, line, texts, p)),
-        _ => Judged::Passes,
+        Form::NameLine => refused_if(!unlike_names(sheet, line, kept), Refusal::Repeated),
+        _ => Ok(()),
     }
 }
 

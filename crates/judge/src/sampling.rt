@@ -4,12 +4,13 @@ ghost use Rattle.lineforms.specs.Said.{Modest};
 ghost use Rattle.model.specs.Forms.{sheet_limits};
 ghost use Rattle.judge.specs.Sampling.{spot_of, bits_in, joined_in, width_test_in, Widened, Timed, Opened, sample_in, Apt, After};
 
+use crate::tests::refused_if;
 use lineforms::due::Form;
 use lineforms::said::{Part, part_in};
 use model::limits::{WIDTH, WORDS};
 use sample::clash::names_twice;
 use sample::component::{Component, Components};
-use text::refusal::{Judged, Refusal};
+use text::refusal::Refusal;
 
 // The open sample: the bits that its components give, the last one's overlap, the subframe of its first component, whether all lie
 // there. The first sample: its width, subframe and whether all lie there.
@@ -41,44 +42,24 @@ fn spot_of(p: Part) -> Component
 }
 
 // A bit twice, a width above its limit, or an overlap above its own, with one component more.
-fn joined_judged(g: Sampling, p: Part) -> Judged
+fn joined_judged(g: Sampling, p: Part) -> Result<(), Refusal>
     requires { (g.spots.count < sheet_limits.components_each) × (g.width ≤ sheet_limits.width) × Modest p }
     ensures { result ≡ joined_in g p }
 {
-    let spots = g.spots;
-    if names_twice(spots.with(spot_of(p))) {
-        return Judged::Refused(Refusal::BadSample);
-    }
     let bits = p.high + 1 - p.low;
-    if (WIDTH as u64) < g.width + bits {
-        return Judged::Refused(Refusal::BadSample);
-    }
-    if bits <= p.overlap {
-        return Judged::Refused(Refusal::BadSample);
-    }
-    if bits < g.lapped {
-        return Judged::Refused(Refusal::BadSample);
-    }
-    Judged::Passes
+    let wrong = names_twice(g.spots.with(spot_of(p)))
+        || (WIDTH as u64) < g.width + bits
+        || bits <= p.overlap
+        || bits < g.lapped;
+    refused_if(wrong, Refusal::BadSample)
 }
 
 // The last component overlaps none, and the width is the first sample's, where this is not the first.
-fn width_judged(g: Sampling, own: usize) -> Judged
+fn width_judged(g: Sampling, own: usize) -> Result<(), Refusal>
     ensures { result ≡ width_test_in own g.lapped g.width g.first }
 {
-    if g.lapped != 0 {
-        return Judged::Refused(Refusal::BadSample);
-    }
-    if g.width < 1 {
-        return Judged::Refused(Refusal::BadSample);
-    }
-    if own == 0 {
-        return Judged::Passes;
-    }
-    if g.width == g.first {
-        return Judged::Passes;
-    }
-    Judged::Refused(Refusal::BadSample)
+    let wrong = g.lapped != 0 || g.width < 1 || own != 0 && g.width != g.first;
+    refused_if(wrong, Refusal::BadSample)
 }
 
 // Nothing of any sample.
@@ -106,10 +87,7 @@ fn home_of(n: usize, s: u64, home: u64) -> u64
 fn alone_of(n: usize, s: u64, home: u64, alone: bool) -> bool
     ensures { result ≡ cond (eqb n 0) true (alone && eqb s home) }
 {
-    if n == 0 {
-        return true;
-    }
-    alone && s == home
+    n == 0 || alone && s == home
 }
 
 // The bits that a component gives to its sample.
@@ -117,11 +95,7 @@ fn given_by(p: Part) -> u64
     requires { Modest p }
     ensures { result ≡ bits_in p - p.overlap }
 {
-    let bits = p.high + 1 - p.low;
-    if bits < p.overlap {
-        return 0;
-    }
-    bits - p.overlap
+    (p.high + 1 - p.low).saturating_sub(p.overlap)
 }
 
 // One component more, n before it.
@@ -129,9 +103,8 @@ fn with_part(g: Sampling, p: Part, n: usize) -> Sampling
     requires { (g.spots.count < sheet_limits.components_each) × (g.width ≤ sheet_limits.width) × Modest p }
     ensures { Widened g p n result }
 {
-    let spots = g.spots;
     Sampling {
-        spots: spots.with(spot_of(p)),
+        spots: g.spots.with(spot_of(p)),
         width: g.width + given_by(p),
         lapped: p.overlap,
         home: home_of(n, p.subframe, g.home),
@@ -146,30 +119,31 @@ pub fn timed(g: Sampling, own: usize) -> Sampling
 {
     let none = no_sample();
     if own == 0 {
-        return Sampling {
+        Sampling {
             first: g.width,
             lies: g.home,
             within: g.alone,
             ..none
-        };
-    }
-    Sampling {
-        first: g.first,
-        lies: g.lies,
-        within: g.within,
-        ..none
+        }
+    } else {
+        Sampling {
+            first: g.first,
+            lies: g.lies,
+            within: g.within,
+            ..none
+        }
     }
 }
 
 // 14 of a line, by what it turned out to be.
-pub fn sample_judged(form: Form, line: &[u8], g: Sampling, own: usize) -> Judged
+pub fn sample_judged(form: Form, line: &[u8], g: Sampling, own: usize) -> Result<(), Refusal>
     requires { Apt form g }
     ensures { result ≡ sample_in form line.now g own }
 {
     match form {
         Form::OpeningComponent | Form::ComponentLine => joined_judged(g, part_in(line)),
         Form::TimeLine => width_judged(g, own),
-        _ => Judged::Passes,
+        _ => Ok(()),
     }
 }
 

@@ -29,6 +29,7 @@ pub struct Tally {
     pub value: u64,
 }
 
+#[tactic(auto, unfolding(crate::specs::Counts::text_of, gather::specs::Book::samples_of, gather::specs::Book::components_of, gather::specs::Book::all_components_of))]
 pub fn nothing() -> Tally
     ensures { result ≡ tally_of empty_book }
 {
@@ -127,10 +128,7 @@ fn signed(x: Tally, line: &[u8]) -> Tally
 fn range_value(identifier: bool, line: &[u8]) -> u64
     ensures { result ≡ cond identifier (value_in line.now) 0 }
 {
-    if identifier {
-        return value_in(line);
-    }
-    0
+    if identifier { value_in(line) } else { 0 }
 }
 
 fn ranged(x: Tally, line: &[u8]) -> Tally

@@ -2,7 +2,7 @@
 ghost use Rattle.std.specs.Prelude.{◌≡◌};
 ghost use Rattle.judge.specs.LineTests.{room_for_parameter_in, room_for_sample_in, room_for_component_in, form_tests, Fitting};
 ghost use Rattle.judge.specs.Sampling.{sample_in};
-ghost use Rattle.text.specs.Refusals.{or_else};
+ghost use Rattle.text.specs.Refusals.{when, or_else};
 
 use crate::sampling::{Sampling, sample_judged};
 use crate::tally::Tally;
@@ -12,77 +12,80 @@ use lineforms::fields::{
     signed_fields, source_fields, time_fields,
 };
 use model::limits::{COMPONENTS, COMPONENTS_EACH, PARAMETERS, SAMPLES, SAMPLES_EACH};
-use text::refusal::{Judged, Refusal, or_else};
+use text::refusal::Refusal;
+
+pub fn refused_if(wrong: bool, refusal: Refusal) -> Result<(), Refusal>
+    ensures { result ≡ when wrong refusal }
+{
+    if wrong {
+        return Err(refusal);
+    }
+    Ok(())
+}
 
 // 12: one parameter more.
-fn room_for_parameter(x: Tally) -> Judged
+#[tactic(auto, unfolding(crate::specs::LineTests::room_for_parameter_in))]
+fn room_for_parameter(x: Tally) -> Result<(), Refusal>
     ensures { result ≡ room_for_parameter_in x }
 {
-    if PARAMETERS <= x.parameters {
-        return Judged::Refused(Refusal::TooMany);
-    }
-    Judged::Passes
+    refused_if(PARAMETERS <= x.parameters, Refusal::TooMany)
 }
 
 // 12: one sample more, which its first component opens.
-fn room_for_sample(x: Tally) -> Judged
+#[tactic(auto, unfolding(crate::specs::LineTests::room_for_sample_in))]
+fn room_for_sample(x: Tally) -> Result<(), Refusal>
     ensures { result ≡ room_for_sample_in x }
 {
-    if SAMPLES_EACH <= x.own {
-        return Judged::Refused(Refusal::TooMany);
-    }
-    if SAMPLES <= x.samples {
-        return Judged::Refused(Refusal::TooMany);
-    }
-    if COMPONENTS <= x.components {
-        return Judged::Refused(Refusal::TooMany);
-    }
-    Judged::Passes
+    let full = SAMPLES_EACH <= x.own || SAMPLES <= x.samples || COMPONENTS <= x.components;
+    refused_if(full, Refusal::TooMany)
 }
 
 // 12: one component more.
-fn room_for_component(x: Tally) -> Judged
+#[tactic(auto, unfolding(crate::specs::LineTests::room_for_component_in))]
+fn room_for_component(x: Tally) -> Result<(), Refusal>
     ensures { result ≡ room_for_component_in x }
 {
-    if COMPONENTS_EACH <= x.parts {
-        return Judged::Refused(Refusal::TooMany);
-    }
-    if COMPONENTS <= x.components {
-        return Judged::Refused(Refusal::TooMany);
-    }
-    Judged::Passes
+    let full = COMPONENTS_EACH <= x.parts || COMPONENTS <= x.components;
+    refused_if(full, Refusal::TooMany)
 }
 
 // 5 and 10, 12, then the fields left to right.
-fn form_judged(form: Form, line: &[u8], x: Tally, words: &[u64], bits: &[u64]) -> Judged
+#[tactic(auto, unfolding(crate::specs::LineTests::form_tests, text::specs::Refusals::first))]
+fn form_judged(
+    form: Form,
+    line: &[u8],
+    x: Tally,
+    words: &[u64],
+    bits: &[u64],
+) -> Result<(), Refusal>
     ensures { result ≡ form_tests form x words.now bits.now line.now }
 {
     match form {
-        Form::Stray => Judged::Refused(Refusal::NotDue),
-        Form::Superframe => Judged::Refused(Refusal::NotCarried),
-        Form::HeaderWord => Judged::Passes,
+        Form::Stray => Err(Refusal::NotDue),
+        Form::Superframe => Err(Refusal::NotCarried),
         Form::HeaderLine => header_fields(line),
-        Form::RecordWord => Judged::Passes,
         Form::RecordLine => record_fields(line),
-        Form::NoneWord => Judged::Passes,
         Form::ParameterWord => room_for_parameter(x),
         Form::NameLine => name_fields(line),
-        Form::OpeningComponent => or_else(
-            room_for_sample(x),
-            component_fields(line, x.declared as u64, words, bits),
-        ),
-        Form::ComponentLine => or_else(
-            room_for_component(x),
-            component_fields(line, x.declared as u64, words, bits),
-        ),
+        Form::OpeningComponent => {
+            room_for_sample(x)?;
+            component_fields(line, x.declared as u64, words, bits)
+        }
+        Form::ComponentLine => {
+            room_for_component(x)?;
+            component_fields(line, x.declared as u64, words, bits)
+        }
         Form::TimeLine => time_fields(line),
-        Form::SamplesEnd => Judged::Passes,
         Form::SignedLine => signed_fields(line),
         Form::RangeLine => range_fields(line, x.identifier),
         Form::SourceLine => source_fields(line),
         Form::LabelLine => label_fields(line),
-        Form::SourceEnd => Judged::Passes,
-        Form::ParameterEnd => Judged::Passes,
+        Form::HeaderWord
+        | Form::RecordWord
+        | Form::NoneWord
+        | Form::SamplesEnd
+        | Form::SourceEnd
+        | Form::ParameterEnd => Ok(()),
     }
 }
 
@@ -94,13 +97,10 @@ pub fn line_judged(
     g: Sampling,
     words: &[u64],
     bits: &[u64],
-) -> Judged
+) -> Result<(), Refusal>
     requires { Fitting form x g }
     ensures { result ≡ or_else (form_tests form x words.now bits.now line.now) (sample_in form line.now g x.own) }
 {
-    let j = form_judged(form, line, x, words, bits);
-    match j {
-        Judged::Passes => sample_judged(form, line, g, x.own),
-        Judged::Refused(r) => Judged::Refused(r),
-    }
+    form_judged(form, line, x, words, bits)?;
+    sample_judged(form, line, g, x.own)
 }

@@ -31,7 +31,7 @@ use Rattle.maker.proofs.Walks.{accepted_on, end_on, end_clear}
 end_small : (d : Due) (K : Book) (os : List ℕ) (k : ℕ) (ls : Lines) (c : Content) → Sound d K → Stands d K os → run d K os k ls ≡ Accepted c → Small (tally_of (end_book d K ls)) most_count
 unfolding end_book run
 end_small d K os k none c h v e = small K os (few d K os h v)
-end_small d K os k (unended l) c h v e = let q = sym (unended_run d K os k l) ∙ e in let o : ◌≡◌ {A = ℕ} 0 1 = cc in absurd (omega arith)
+end_small d K os k (unended l) c h v e = let q = sym (unended_run d K os k l) ∙ e in absurd (cc)
 end_small d K os k (line l ls) c h v e =
     let o = accepted_on d K os k l ls c e in
     let n = sound_step d K l h o.passes in
@@ -55,7 +55,7 @@ accepted_ended s c e = go (ltb longest_sheet (length s)) refl e
     fresh = record { no_pairs = refl; no_parameters = refl; no_parts = refl }
 
     go : (t : Bool) → ltb longest_sheet (length s) ≡ t → cond t (Refused SheetTooLong 0) (run due.HeaderWord empty_book [] 0 (lines_of s)) ≡ Accepted c → Ended s c
-    go true p q = let o : ◌≡◌ {A = ℕ} 0 1 = cc in absurd (omega arith)
+    go true p q = absurd (cc)
     go false p q =
         record {
           short = ltb-false longest_sheet (length s) p;

@@ -19,7 +19,7 @@ use Rattle.maker.proofs.Walks.{accepted_on, end_on, end_due}
 pub end_between : (d : Due) (K : Book) (os : List ℕ) (k : ℕ) (ls : Lines) (c : Content) → Sound d K → run d K os k ls ≡ Accepted c → Between (end_book d K ls)
 unfolding end_book run
 end_between d K os k none c h e = ⊎_elim (λ p. p) (λ p. p) (end_due (λ x. Sound x K) d K os (k + 1) c h e)
-end_between d K os k (unended l) c h e = let q = sym (unended_run d K os k l) ∙ e in let o : ◌≡◌ {A = ℕ} 0 1 = cc in absurd (omega arith)
+end_between d K os k (unended l) c h e = let q = sym (unended_run d K os k l) ∙ e in absurd (cc)
 end_between d K os k (line l ls) c h e =
     let o = accepted_on d K os k l ls c e in
     subst (λ (B : Book). Between B) (sym (end_on d K l ls o.passes))

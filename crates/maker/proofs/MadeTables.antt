@@ -9,6 +9,7 @@ use borrow.Author.Tests.{leb-true, leb-false}
 use lib.Dec.{leb}
 use lib.ListN.{length, take, drop, length-append, length-drop}
 use lib.Seq.{take-append_seam, drop-append_seam}
+use Rattle.std.specs.Prelude.{Ok, Err}
 use Rattle.text.specs.Refusals.{refusal_number}
 use Rattle.text.specs.declared.refusal.Refusal.{Refusal}
 use Rattle.text.specs.declared.refusal.Refusal.TheVariants.{TableTooSmall}
@@ -20,9 +21,8 @@ use Rattle.model.specs.Write.{write}
 use Rattle.gather.specs.Ruling.{Ruling, Accepted, Refused, judge_of}
 use Rattle.gather.proofs.AcceptedLawful.{accepted_table, accepted_view}
 use Rattle.gather.proofs.NumbersAndLines.{refused_sensibly}
-use Rattle.maker.specs.Made.{made_of, left_of}
-use Rattle.maker.specs.declared.make.Made.{Made}
-use Rattle.maker.specs.declared.make.Made.TheVariants as made
+use Rattle.judge.specs.declared.walk.Rejected.{Rejected}
+use Rattle.maker.specs.Made.{Made, unmade, made_of, left_of}
 
 -- ---- a table of n bytes is made
 
@@ -38,10 +38,6 @@ pub record MadeTable (s out : List ℕ) (n : ℕ) : Type 0 where
   -- later bytes stay
   pub later : drop n (left_of (judge_of s) out) ≡ drop n out
 
-abbrev length_in : Made → ℕ → ℕ
-length_in (made.Length n) k = n
-length_in (made.Refused q l) k = k
-
 module _ (s out : List ℕ) (n : ℕ) where
   table_of : (c : Content) → judge_of s ≡ Accepted c → n ≡ length (write newest c) → n ≤ length out → left_of (judge_of s) out ≡ write newest c ++ drop (length (write newest c)) out → MadeTable s out n
   table_of c e h le p =
@@ -56,18 +52,18 @@ module _ (s out : List ℕ) (n : ℕ) where
         later = rw (h, p) (drop-append_seam (write newest c) (drop (length (write newest c)) out));
       }
 
-  pub made_table : made_of (judge_of s) (length out) ≡ made.Length n → MadeTable s out n
+  pub made_table : made_of (judge_of s) (length out) ≡ Ok n → MadeTable s out n
   made_table e = go (judge_of s) refl e
     where
-      room : (c : Content) (b : Bool) → judge_of s ≡ Accepted c → leb (length (write newest c)) (length out) ≡ b → cond b (made.Length (length (write newest c))) (made.Refused TableTooSmall 0) ≡ made.Length n → MadeTable s out n
+      room : (c : Content) (b : Bool) → judge_of s ≡ Accepted c → leb (length (write newest c)) (length out) ≡ b → cond b (Ok (length (write newest c))) (unmade TableTooSmall 0) ≡ Ok n → MadeTable s out n
       room c true p b q =
-          let h : n ≡ length (write newest c) = sym (ap (λ (m : Made). length_in m n) q) in
+          let h : n ≡ length (write newest c) = cc in
           table_of c p h (omega (arith, h, leb-true (length (write newest c)) (length out) b)) (ap (λ (r : Ruling). left_of r out) p ∙ rw b)
-      room c false p b q = let z : ◌≡◌ {A = ℕ} 0 1 = cc in absurd (omega arith)
+      room c false p b q = absurd (cc)
 
-      go : (r : Ruling) → judge_of s ≡ r → made_of r (length out) ≡ made.Length n → MadeTable s out n
+      go : (r : Ruling) → judge_of s ≡ r → made_of r (length out) ≡ Ok n → MadeTable s out n
       go (Accepted c) p q = room c (leb (length (write newest c)) (length out)) p refl q
-      go (Refused r l) p q = let z : ◌≡◌ {A = ℕ} 0 1 = cc in absurd (omega arith)
+      go (Refused r l) p q = absurd (cc)
 
 -- ---- refused
 
@@ -85,14 +81,6 @@ pub record LeftAlone (s out : List ℕ) (q : Refusal) (k : ℕ) : Type 0 where
   pub same : left_of (judge_of s) out ≡ out
   pub least : 1 ≤ refusal_number q
   pub most : refusal_number q ≤ 17
-
-abbrev refusal_in : Made → Refusal → Refusal
-refusal_in (made.Length n) q = q
-refusal_in (made.Refused r l) q = r
-
-abbrev line_in : Made → ℕ → ℕ
-line_in (made.Length n) k = k
-line_in (made.Refused r l) k = l
 
 module _ (s out : List ℕ) (q : Refusal) (k : ℕ) where
   judged_alone : (r : Refusal) (l : ℕ) → judge_of s ≡ Refused r l → q ≡ r → k ≡ l → LeftAlone s out q k
@@ -115,16 +103,25 @@ module _ (s out : List ℕ) (q : Refusal) (k : ℕ) where
         most = rw a (omega arith);
       }
 
-  pub left_alone : made_of (judge_of s) (length out) ≡ made.Refused q k → LeftAlone s out q k
+  same : {r : Refusal} {l : ℕ} → unmade r l ≡ unmade q k → (q ≡ r) × (k ≡ l)
+  same {r} {l} e =
+      let i : ◌≡◌ {A = Rejected} (record { refusal = q; line = k }) (record { refusal = r; line = l }) = cc in
+      (ap (λ (x : Rejected). x.refusal) i, ap (λ (x : Rejected). x.line) i)
+
+  pub left_alone : made_of (judge_of s) (length out) ≡ unmade q k → LeftAlone s out q k
   left_alone e = go (judge_of s) refl e
     where
-      room : (c : Content) (b : Bool) → judge_of s ≡ Accepted c → leb (length (write newest c)) (length out) ≡ b → cond b (made.Length (length (write newest c))) (made.Refused TableTooSmall 0) ≡ made.Refused q k → LeftAlone s out q k
-      room c true p b h = let z : ◌≡◌ {A = ℕ} 0 1 = cc in absurd (omega arith)
-      room c false p b h = small_alone c p b (sym (ap (λ (m : Made). refusal_in m q) h)) (sym (ap (λ (m : Made). line_in m k) h))
+      room : (c : Content) (b : Bool) → judge_of s ≡ Accepted c → leb (length (write newest c)) (length out) ≡ b → cond b (Ok (length (write newest c))) (unmade TableTooSmall 0) ≡ unmade q k → LeftAlone s out q k
+      room c true p b h = absurd (cc)
+      room c false p b h =
+          let i = same h in
+          small_alone c p b i.0 i.1
 
-      go : (r : Ruling) → judge_of s ≡ r → made_of r (length out) ≡ made.Refused q k → LeftAlone s out q k
+      go : (r : Ruling) → judge_of s ≡ r → made_of r (length out) ≡ unmade q k → LeftAlone s out q k
       go (Accepted c) p h = room c (leb (length (write newest c)) (length out)) p refl h
-      go (Refused r l) p h = judged_alone r l p (sym (ap (λ (m : Made). refusal_in m q) h)) (sym (ap (λ (m : Made). line_in m k) h))
+      go (Refused r l) p h =
+          let i = same h in
+          judged_alone r l p i.0 i.1
 
 -- ---- as many bytes are lent afterwards as before
 
@@ -140,7 +137,7 @@ left_long s out = go (judge_of s)
     go (Refused q k) = refl
 
 -- so a table that was made lies within them
-pub made_room : (s out after : List ℕ) (n : ℕ) {m : Made} → (m ≡ made_of (judge_of s) (length out)) × (after ≡ left_of (judge_of s) out) → m ≡ made.Length n → n ≤ length after
+pub made_room : (s out after : List ℕ) (n : ℕ) {m : Made} → (m ≡ made_of (judge_of s) (length out)) × (after ≡ left_of (judge_of s) out) → m ≡ Ok n → n ≤ length after
 made_room s out after n h e =
     let t = made_table s out n (sym h.0 ∙ e) in
     omega (arith, t.fits, ap length h.1, left_long s out)

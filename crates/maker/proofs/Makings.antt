@@ -5,6 +5,7 @@ use Prim.Native.Nat.{ℕ, ◌+◌, ◌≤◌, ◌<◌}
 use native.Mathlib.Omega.{arith}
 use borrow.Author.Tests.{le-leb, lt-leb}
 use lib.ListN.{length, drop}
+use Rattle.std.specs.Prelude.{Ok, Err}
 use Rattle.lay.specs.Bytes.{put}
 use Rattle.text.specs.declared.refusal.Refusal.{Refusal}
 use Rattle.text.specs.declared.refusal.Refusal.TheVariants.{TableTooSmall}
@@ -22,16 +23,13 @@ use Rattle.gather.specs.Book.{components_of}
 use Rattle.gather.specs.Ruling.{Ruling, Accepted, Refused, judge_of}
 use Rattle.gather.proofs.AcceptedLawful.{accepted_lawful}
 use Rattle.judge.specs.Counts.{most_count, tally_of}
-use Rattle.judge.specs.Walk.{book_of, verdict_of}
+use Rattle.judge.specs.Walk.{Verdict, refused, book_of, verdict_of}
 use Rattle.judge.specs.declared.tally.Tally.{Tally}
-use Rattle.judge.specs.declared.walk.Verdict.{Verdict}
-use Rattle.judge.specs.declared.walk.Verdict.TheVariants as verdict
+use Rattle.judge.specs.declared.walk.Rejected.{Rejected}
 use Rattle.laying.specs.Parts.{new_layout, head_size, header, copies, laid}
 use Rattle.maker.specs.Emit.{places_of, Walkable}
 use Rattle.maker.specs.Entries.{counts_of, head_by}
-use Rattle.maker.specs.Made.{made_of, left_of}
-use Rattle.maker.specs.declared.make.Made.{Made}
-use Rattle.maker.specs.declared.make.Made.TheVariants as made
+use Rattle.maker.specs.Made.{Made, unmade, made_of, left_of}
 use Rattle.maker.proofs.Accepted.{Ended, accepted_ended}
 use Rattle.maker.proofs.Making.{write_long, fits_all, head_first, table_made}
 use Rattle.maker.proofs.Room.{laid_long}
@@ -42,16 +40,14 @@ Leaves s out m after = (m ≡ made_of (judge_of s) (length out)) × (after ≡ l
 
 -- ---- refused
 
-abbrev as_made : Verdict → Made
-as_made (verdict.Accepted x) = made.Length 0
-as_made (verdict.Refused q k) = made.Refused q k
-
-pub leaves_refused : (s out : List ℕ) (q : Refusal) (k : ℕ) → verdict_of (judge_of s) (tally_of (book_of s)) ≡ verdict.Refused q k → Leaves s out (made.Refused q k) out
-leaves_refused s out q k e = go (judge_of s) e
+pub leaves_refused : (s out : List ℕ) (r : Rejected) → verdict_of (judge_of s) (tally_of (book_of s)) ≡ Err r → Leaves s out (Err r) out
+leaves_refused s out r e = go (judge_of s) e
   where
-    go : (r : Ruling) → verdict_of r (tally_of (book_of s)) ≡ verdict.Refused q k → (made.Refused q k ≡ made_of r (length out)) × (out ≡ left_of r out)
-    go (Accepted c) p = let o : ◌≡◌ {A = ℕ} 0 1 = cc in absurd (omega arith)
-    go (Refused r l) p = (sym (ap as_made p), refl)
+    go : (v : Ruling) → verdict_of v (tally_of (book_of s)) ≡ Err r → (◌≡◌ {A = Made} (Err r) (made_of v (length out))) × (out ≡ left_of v out)
+    go (Accepted c) p = absurd (cc)
+    go (Refused q k) p =
+        let i : record { refusal = q; line = k } ≡ r = cc in
+        (ap Err (sym i), refl)
 
 -- ---- accepted, with the counts x
 
@@ -60,16 +56,12 @@ pub record Taken (s : List ℕ) (x : Tally) : Type 0 where
   pub accepted : judge_of s ≡ Accepted content
   pub counts : x ≡ tally_of (book_of s)
 
-abbrev counts_in : Tally → Verdict → Tally
-counts_in z (verdict.Accepted x) = x
-counts_in z (verdict.Refused q k) = z
-
-pub taken : (s : List ℕ) (x : Tally) → verdict_of (judge_of s) (tally_of (book_of s)) ≡ verdict.Accepted x → Taken s x
+pub taken : (s : List ℕ) (x : Tally) → verdict_of (judge_of s) (tally_of (book_of s)) ≡ Ok x → Taken s x
 taken s x e = go (judge_of s) refl e
   where
-    go : (r : Ruling) → judge_of s ≡ r → verdict_of r (tally_of (book_of s)) ≡ verdict.Accepted x → Taken s x
-    go (Accepted c) p q = record { content = c; accepted = p; counts = sym (ap (counts_in x) q) }
-    go (Refused r l) p q = let o : ◌≡◌ {A = ℕ} 0 1 = cc in absurd (omega arith)
+    go : (r : Ruling) → judge_of s ≡ r → verdict_of r (tally_of (book_of s)) ≡ Ok x → Taken s x
+    go (Accepted c) p q = record { content = c; accepted = p; counts = cc }
+    go (Refused r l) p q = absurd (cc)
 
 -- the book of an accepted sheet
 module _ (s : List ℕ) (c : Content) (e : judge_of s ≡ Accepted c) where
@@ -120,7 +112,7 @@ module _ (s : List ℕ) (c : Content) (e : judge_of s ≡ Accepted c) where
           copied = refl;
         }
 
-    small_book : (out : List ℕ) → length out < a.text + (tally_of (book_of s)).text → Leaves s out (made.Refused TableTooSmall 0) out
+    small_book : (out : List ℕ) → length out < a.text + (tally_of (book_of s)).text → Leaves s out (unmade TableTooSmall 0) out
     small_book out h =
         let b = lt-leb (length (write newest c)) (length out) (omega (arith, long_book, h)) in
         (sym (ap (λ (r : Ruling). made_of r (length out)) e ∙ rw b), sym (ap (λ (r : Ruling). left_of r out) e ∙ rw b))
@@ -128,7 +120,7 @@ module _ (s : List ℕ) (c : Content) (e : judge_of s ≡ Accepted c) where
     made_book : (out one two : List ℕ) → a.text + (tally_of (book_of s)).text ≤ length out
         → one ≡ laid out (places_of a) (copies (tally_of (book_of s)).pairs (tally_of (book_of s)).declared) (book_of s)
         → two ≡ put one 0 (header (head_by (counts_of (tally_of (book_of s))) a (a.text + (tally_of (book_of s)).text) (tally_of (book_of s)).sequential))
-        → Leaves s out (made.Length (a.text + (tally_of (book_of s)).text)) two
+        → Leaves s out (Ok (a.text + (tally_of (book_of s)).text)) two
     made_book out one two h p w =
         let b = le-leb (length (write newest c)) (length out) (omega (arith, long_book, h)) in
         let t : two ≡ write newest c ++ drop (length (write newest c)) out = subst (λ (d : Content). two ≡ write newest d ++ drop (length (write newest d)) out) (sym ended.same) (table_made (book_of s) ended.clear ended.between.no_parts ended.between.ground.long a q out one two h p w) in
@@ -152,7 +144,7 @@ module _ (s : List ℕ) (x : Tally) (t : Taken s x) (n : Counts) (en : n ≡ cou
     total_booked : a.text + x.text ≡ a.text + (tally_of (book_of s)).text
     total_booked = ap (λ (z : Tally). a.text + z.text) t.counts
 
-    pub leaves_small : (out : List ℕ) → length out < a.text + x.text → Leaves s out (made.Refused TableTooSmall 0) out
+    pub leaves_small : (out : List ℕ) → length out < a.text + x.text → Leaves s out (unmade TableTooSmall 0) out
     leaves_small out h = small_book s t.content t.accepted a starts_booked out (omega (arith, h, total_booked))
 
     module _ (f : ℕ) (ef : f ≡ copies x.pairs x.declared) where
@@ -169,9 +161,9 @@ module _ (s : List ℕ) (x : Tally) (t : Taken s x) (n : Counts) (en : n ≡ cou
       taken_room out one h p =
           omega (arith, ap length p, laid_long out a f (book_of s) (taken_walkable (length out) h).fits, head_book s t.content t.accepted a starts_booked, h)
 
-      pub leaves_table : (out one two : List ℕ) → a.text + x.text ≤ length out → one ≡ laid out (places_of a) f (book_of s) → two ≡ put one 0 (header (head_by n a (a.text + x.text) x.sequential)) → Leaves s out (made.Length (a.text + x.text)) two
+      pub leaves_table : (out one two : List ℕ) → a.text + x.text ≤ length out → one ≡ laid out (places_of a) f (book_of s) → two ≡ put one 0 (header (head_by n a (a.text + x.text) x.sequential)) → Leaves s out (Ok (a.text + x.text)) two
       leaves_table out one two h p q =
-          subst (λ (v : ℕ). Leaves s out (made.Length v) two) (sym total_booked)
+          subst (λ (v : ℕ). Leaves s out (Ok v) two) (sym total_booked)
           (made_book s t.content t.accepted a starts_booked out one two (omega (arith, h, total_booked))
           (p ∙ ap (λ (g : ℕ). laid out (places_of a) g (book_of s)) copies_booked)
           (q ∙ ap₂ (λ (m : Counts) (z : Tally). put one 0 (header (head_by m a (a.text + z.text) z.sequential))) booked t.counts))

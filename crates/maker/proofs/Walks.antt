@@ -8,10 +8,9 @@ use native.Mathlib.Omega.{arith}
 use lib.Dec.{ltb}
 use lib.ListN.{length, drop, length-drop}
 use borrow.Author.Tests.{ltb-true, ltb-false}
-use Rattle.text.specs.Refusals.{first, or_else}
+use Rattle.std.specs.Prelude.{Ok, Err}
+use Rattle.text.specs.Refusals.{first, or_else, Judged}
 use Rattle.text.specs.declared.refusal.Refusal.{Refusal}
-use Rattle.text.specs.declared.refusal.Judged.{Judged}
-use Rattle.text.specs.declared.refusal.Judged.TheVariants as judged
 use Rattle.text.specs.Parts.{index_of}
 use Rattle.lines.specs.Line.{end_byte, raw_hits}
 use Rattle.lines.specs.Lines.{Lines, none, unended, line, lines_of}
@@ -34,14 +33,14 @@ use Rattle.laying.proofs.Rising.{Rises, rises_same, rises_on, rises_grow}
 
 -- ---- a line of an accepted sheet passes
 
-pub goes : (j : Judged) (k : ℕ) (r : Ruling) (c : Content) → on_judged j k r ≡ Accepted c → j ≡ judged.Passes
-goes judged.Passes k r c e = refl
-goes (judged.Refused q) k r c e = let o : ◌≡◌ {A = ℕ} 0 1 = cc in absurd (omega arith)
+pub goes : (j : Judged) (k : ℕ) (r : Ruling) (c : Content) → on_judged j k r ≡ Accepted c → j ≡ Ok tt
+goes (Ok _) k r c e = refl
+goes (Err q) k r c e = absurd (cc)
 
 -- a form that passes is not stray
-kept : (f : Form) → due_test f ≡ judged.Passes → Kept f
-kept form.Stray e = let o : ◌≡◌ {A = ℕ} 0 1 = cc in absurd (omega arith)
-kept form.Superframe e = let o : ◌≡◌ {A = ℕ} 0 1 = cc in absurd (omega arith)
+kept : (f : Form) → due_test f ≡ Ok tt → Kept f
+kept form.Stray e = absurd (cc)
+kept form.Superframe e = absurd (cc)
 kept form.HeaderWord e = tt
 kept form.HeaderLine e = tt
 kept form.RecordWord e = tt
@@ -60,7 +59,7 @@ kept form.LabelLine e = tt
 kept form.SourceEnd e = tt
 kept form.ParameterEnd e = tt
 
-module _ (d : Due) (K : Book) (l : List ℕ) (h : line_judged true l (tests_of (form_at d K l) K l) ≡ judged.Passes) where
+module _ (d : Due) (K : Book) (l : List ℕ) (h : line_judged true l (tests_of (form_at d K l) K l) ≡ Ok tt) where
   pub line_kept : Kept (form_at d K l)
   unfolding line_judged
   line_kept = kept (form_at d K l) (first_none _ h 3)
@@ -69,7 +68,7 @@ module _ (d : Due) (K : Book) (l : List ℕ) (h : line_judged true l (tests_of (
 
 -- what an accepted run still has before it
 pub record On (d : Due) (K : Book) (os : List ℕ) (k : ℕ) (l : List ℕ) (ls : Lines) (c : Content) : Type 0 where
-  pub passes : line_judged true l (tests_of (form_at d K l) K l) ≡ judged.Passes
+  pub passes : line_judged true l (tests_of (form_at d K l) K l) ≡ Ok tt
   pub says : run (due_after (form_at d K l)) (grow (form_at d K l) l K) (opens (form_at d K l) (k + 1) os) (k + 1) ls ≡ Accepted c
 
 pub accepted_on : (d : Due) (K : Book) (os : List ℕ) (k : ℕ) (l : List ℕ) (ls : Lines) (c : Content) → run d K os k (line l ls) ≡ Accepted c → On d K os k l ls c
@@ -78,7 +77,7 @@ accepted_on d K os k l ls c e =
     let p = goes (line_judged true l (tests_of (form_at d K l) K l)) (k + 1) (run (due_after (form_at d K l)) (grow (form_at d K l) l K) (opens (form_at d K l) (k + 1) os) (k + 1) ls) c e in
     record { passes = p; says = subst (λ (j : Judged). on_judged j (k + 1) (run (due_after (form_at d K l)) (grow (form_at d K l) l K) (opens (form_at d K l) (k + 1) os) (k + 1) ls) ≡ Accepted c) p e }
 
-pub end_on : (d : Due) (K : Book) (l : List ℕ) (ls : Lines) → line_judged true l (tests_of (form_at d K l) K l) ≡ judged.Passes → end_book d K (line l ls) ≡ end_book (due_after (form_at d K l)) (grow (form_at d K l) l K) ls
+pub end_on : (d : Due) (K : Book) (l : List ℕ) (ls : Lines) → line_judged true l (tests_of (form_at d K l) K l) ≡ Ok tt → end_book d K (line l ls) ≡ end_book (due_after (form_at d K l)) (grow (form_at d K l) l K) ls
 unfolding end_book
 end_on d K l ls p = ap (λ (j : Judged). onward j K (end_book (due_after (form_at d K l)) (grow (form_at d K l) l K) ls)) p
 
@@ -100,21 +99,21 @@ rises_end n d K os k (line l ls) c h e =
 
 -- it ends where a parameter may begin, or where nothing is due
 pub end_due : (P : Due → Type 0) (d : Due) (K : Book) (os : List ℕ) (k : ℕ) (c : Content) → P d → at_end d K os k ≡ Accepted c → P due.NextParameter ⊎ P due.Nothing
-end_due P due.HeaderWord K os k c h e = let o : ◌≡◌ {A = ℕ} 0 1 = cc in absurd (omega arith)
-end_due P due.HeaderLine K os k c h e = let o : ◌≡◌ {A = ℕ} 0 1 = cc in absurd (omega arith)
-end_due P due.RecordWord K os k c h e = let o : ◌≡◌ {A = ℕ} 0 1 = cc in absurd (omega arith)
-end_due P due.RecordLine K os k c h e = let o : ◌≡◌ {A = ℕ} 0 1 = cc in absurd (omega arith)
-end_due P due.Opening K os k c h e = let o : ◌≡◌ {A = ℕ} 0 1 = cc in absurd (omega arith)
-end_due P due.NameLine K os k c h e = let o : ◌≡◌ {A = ℕ} 0 1 = cc in absurd (omega arith)
-end_due P due.FirstComponent K os k c h e = let o : ◌≡◌ {A = ℕ} 0 1 = cc in absurd (omega arith)
-end_due P due.NextComponent K os k c h e = let o : ◌≡◌ {A = ℕ} 0 1 = cc in absurd (omega arith)
-end_due P due.AfterSample K os k c h e = let o : ◌≡◌ {A = ℕ} 0 1 = cc in absurd (omega arith)
-end_due P due.SignedLine K os k c h e = let o : ◌≡◌ {A = ℕ} 0 1 = cc in absurd (omega arith)
-end_due P due.RangeLine K os k c h e = let o : ◌≡◌ {A = ℕ} 0 1 = cc in absurd (omega arith)
-end_due P due.SourceLine K os k c h e = let o : ◌≡◌ {A = ℕ} 0 1 = cc in absurd (omega arith)
-end_due P due.AfterSource K os k c h e = let o : ◌≡◌ {A = ℕ} 0 1 = cc in absurd (omega arith)
-end_due P due.SourceBlank K os k c h e = let o : ◌≡◌ {A = ℕ} 0 1 = cc in absurd (omega arith)
-end_due P due.AfterSourceBlank K os k c h e = let o : ◌≡◌ {A = ℕ} 0 1 = cc in absurd (omega arith)
+end_due P due.HeaderWord K os k c h e = absurd (cc)
+end_due P due.HeaderLine K os k c h e = absurd (cc)
+end_due P due.RecordWord K os k c h e = absurd (cc)
+end_due P due.RecordLine K os k c h e = absurd (cc)
+end_due P due.Opening K os k c h e = absurd (cc)
+end_due P due.NameLine K os k c h e = absurd (cc)
+end_due P due.FirstComponent K os k c h e = absurd (cc)
+end_due P due.NextComponent K os k c h e = absurd (cc)
+end_due P due.AfterSample K os k c h e = absurd (cc)
+end_due P due.SignedLine K os k c h e = absurd (cc)
+end_due P due.RangeLine K os k c h e = absurd (cc)
+end_due P due.SourceLine K os k c h e = absurd (cc)
+end_due P due.AfterSource K os k c h e = absurd (cc)
+end_due P due.SourceBlank K os k c h e = absurd (cc)
+end_due P due.AfterSourceBlank K os k c h e = absurd (cc)
 end_due P due.NextParameter K os k c h e = inl h
 end_due P due.Nothing K os k c h e = inr h
 
@@ -122,7 +121,7 @@ end_due P due.Nothing K os k c h e = inr h
 pub end_clear : (d : Due) (K : Book) (os : List ℕ) (k : ℕ) (ls : Lines) (c : Content) → Clear d K → run d K os k ls ≡ Accepted c → (end_book d K ls).opened ≡ no_parameter
 unfolding end_book run
 end_clear d K os k none c h e = ⊎_elim (λ p. p) (λ p. p) (end_due (λ x. Clear x K) d K os (k + 1) c h e)
-end_clear d K os k (unended l) c h e = let q = sym (unended_run d K os k l) ∙ e in let o : ◌≡◌ {A = ℕ} 0 1 = cc in absurd (omega arith)
+end_clear d K os k (unended l) c h e = let q = sym (unended_run d K os k l) ∙ e in absurd (cc)
 end_clear d K os k (line l ls) c h e =
     let o = accepted_on d K os k l ls c e in
     let at = clear_at K l d h in
@@ -138,23 +137,20 @@ some_line t h e = go (ltb (index_of end_byte t) (length t)) refl
     go : (b : Bool) → ltb (index_of end_byte t) (length t) ≡ b → ⊥
     go true p =
         let q = sym (lines_cut t (ltb-true (index_of end_byte t) (length t) p)) ∙ e in
-        let o : ◌≡◌ {A = ℕ} 0 1 = cc in
-        omega arith
+        cc
     go false p =
         let q = sym (lines_open t (ltb-false (index_of end_byte t) (length t) p) h) ∙ e in
-        let o : ◌≡◌ {A = ℕ} 0 1 = cc in
-        omega arith
+        cc
 
-pub refused_not : (d : Due) (K : Book) (os : List ℕ) (k : ℕ) (ls : Lines) (c : Content) (r : Refusal) → (ls ≡ none → ⊥) → run d K os k ls ≡ Accepted c → head_judged ls ≡ judged.Refused r → ⊥
+pub refused_not : (d : Due) (K : Book) (os : List ℕ) (k : ℕ) (ls : Lines) (c : Content) (r : Refusal) → (ls ≡ none → ⊥) → run d K os k ls ≡ Accepted c → head_judged ls ≡ Err r → ⊥
 unfolding run head_judged line_judged
 refused_not d K os k none c r m e h = m refl
-refused_not d K os k (unended l) c r m e h = let q = sym (unended_run d K os k l) ∙ e in let o : ◌≡◌ {A = ℕ} 0 1 = cc in omega arith
+refused_not d K os k (unended l) c r m e h = let q = sym (unended_run d K os k l) ∙ e in cc
 refused_not d K os k (line l ls) c r m e h =
     let o = accepted_on d K os k l ls c e in
-    let q : or_else (first (raw_hits true l)) (first (hits (tests_of (form_at d K l) K l))) ≡ judged.Passes = sym (first_append (raw_hits true l) (hits (tests_of (form_at d K l) K l))) ∙ o.passes in
-    let t : judged.Refused r ≡ judged.Passes = subst (λ (j : Judged). or_else j (first (hits (tests_of (form_at d K l) K l))) ≡ judged.Passes) h q in
-    let z : ◌≡◌ {A = ℕ} 0 1 = cc in
-    omega arith
+    let q : or_else (first (raw_hits true l)) (first (hits (tests_of (form_at d K l) K l))) ≡ Ok tt = sym (first_append (raw_hits true l) (hits (tests_of (form_at d K l) K l))) ∙ o.passes in
+    let t : Err r ≡ Ok tt = subst (λ (j : Judged). or_else j (first (hits (tests_of (form_at d K l) K l))) ≡ Ok tt) h q in
+    cc
 
 pub line_there : (s : List ℕ) (at : ℕ) → at < length s → lines_of (drop at s) ≡ none → ⊥
 line_there s at h e = some_line (drop at s) (simp length-drop (omega arith)) e

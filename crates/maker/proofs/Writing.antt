@@ -11,11 +11,12 @@ use borrow.Author.Tests.{eqb-true, le-ltb}
 use Rattle.lay.specs.Bytes.{part}
 use Rattle.lay.proofs.Puts.{put_none}
 use Rattle.text.proofs.Cuts.{drop_end}
+use Rattle.std.specs.Prelude.{Ok, Err}
 use Rattle.text.specs.declared.refusal.Refusal.{Refusal}
 use Rattle.lines.specs.Line.{Ready, line_at}
 use Rattle.lines.specs.Lines.{Lines, line, lines_of}
 use Rattle.lines.specs.declared.Cursor.{Cursor}
-use Rattle.lines.specs.declared.Found.TheVariants as found
+use Rattle.lines.specs.declared.Line.{Line}
 use Rattle.lines.proofs.Cuts.{Next, found_next, found_refused}
 use Rattle.lineforms.specs.Forms.{form_of, due_after}
 use Rattle.lineforms.specs.declared.due.Due.{Due}
@@ -166,10 +167,7 @@ pairing form.ParameterEnd l K B n e h = tt
 
 -- ---- one line
 
-module _ (s out₀ : List ℕ) (a : Starts) (n : ℕ) (out : List ℕ) (c : Cursor) (d : Due) (x : Tally) (w : Walk s out₀ a n out c d x) where
-  K : Book
-  K = w.book
-
+module _ {s out₀ : List ℕ} {a : Starts} {n : ℕ} {out : List ℕ} {c : Cursor} {d : Due} {x : Tally} (w : Walk s out₀ a n out c d x) where
   rises_now : Rises n w.book (book_of s)
   rises_now =
       subst (λ (B : Book). Rises n w.book B) w.last
@@ -196,37 +194,34 @@ module _ (s out₀ : List ℕ) (a : Starts) (n : ℕ) (out : List ℕ) (c : Curs
   walk_open = subst (λ (y : Tally). OpenCounted y) (sym w.mine) open_now
 
   -- the line that the cursor found
-  module _ (st en : ℕ) (nx : Cursor) (e : line_at s c ≡ found.Line st en nx) (l : List ℕ) (b : l ≡ part s st (en - st)) (f : Form) (g : f ≡ form_of d x.pairs x.declared l) where
-    next : Next s c st en nx
-    next = found_next s c w.ready st en nx e
+  module _ (h : Line) (e : line_at s c ≡ Ok h) (l : List ℕ) (b : l ≡ part s h.start (h.end - h.start)) (f : Form) (g : f ≡ form_of d x.pairs x.declared l) where
+    next : Next s c h.start h.end h.next
+    next = found_next s c w.ready h e
 
     form_is : f ≡ form_at d w.book l
     form_is = g ∙ ap (λ (y : Tally). form_of d y.pairs y.declared l) w.mine
 
-    cut : lines_of (drop c.at s) ≡ line l (lines_of (drop nx.at s))
-    cut = next.cut ∙ ap (λ (m : List ℕ). line m (lines_of (drop nx.at s))) (sym b)
+    cut : lines_of (drop c.at s) ≡ line l (lines_of (drop h.next.at s))
+    cut = next.cut ∙ ap (λ (m : List ℕ). line m (lines_of (drop h.next.at s))) (sym b)
 
-    on : On d w.book w.lines c.number l (lines_of (drop nx.at s)) w.able.content
+    on : On d w.book w.lines c.number l (lines_of (drop h.next.at s)) w.able.content
     on =
-        accepted_on d w.book w.lines c.number l (lines_of (drop nx.at s)) w.able.content
+        accepted_on d w.book w.lines c.number l (lines_of (drop h.next.at s)) w.able.content
         (subst (λ (m : Lines). run d w.book w.lines c.number m ≡ Accepted w.able.content) cut w.says)
 
     at : ClearAt (form_at d w.book l) w.book
     at = clear_at w.book l d w.clear
 
-    G : Book
-    G = grow (form_at d w.book l) l w.book
-
     clear_next : Clear (due_after (form_at d w.book l)) (grow (form_at d w.book l) l w.book)
     clear_next = clear_step (form_at d w.book l) l w.book (line_kept d w.book l on.passes) at
 
-    last_next : end_book (due_after (form_at d w.book l)) (grow (form_at d w.book l) l w.book) (lines_of (drop nx.at s)) ≡ book_of s
-    last_next = sym (end_on d w.book l (lines_of (drop nx.at s)) on.passes) ∙ (sym (ap (end_book d w.book) cut) ∙ w.last)
+    last_next : end_book (due_after (form_at d w.book l)) (grow (form_at d w.book l) l w.book) (lines_of (drop h.next.at s)) ≡ book_of s
+    last_next = sym (end_on d w.book l (lines_of (drop h.next.at s)) on.passes) ∙ (sym (ap (end_book d w.book) cut) ∙ w.last)
 
     rises_next : Rises n (grow (form_at d w.book l) l w.book) (book_of s)
     rises_next =
         subst (λ (B : Book). Rises n (grow (form_at d w.book l) l w.book) B) last_next
-        (rises_end n (due_after (form_at d w.book l)) (grow (form_at d w.book l) l w.book) (opens (form_at d w.book l) (c.number + 1) w.lines) (c.number + 1) (lines_of (drop nx.at s)) w.able.content clear_next on.says)
+        (rises_end n (due_after (form_at d w.book l)) (grow (form_at d w.book l) l w.book) (opens (form_at d w.book l) (c.number + 1) w.lines) (c.number + 1) (lines_of (drop h.next.at s)) w.able.content clear_next on.says)
 
     fits_next : Fits (places_of a) n (grow (form_at d w.book l) l w.book) (length out₀)
     fits_next = fits_before (places_of a) n (grow (form_at d w.book l) l w.book) (book_of s) (length out₀) rises_next w.able.fits
@@ -245,7 +240,7 @@ module _ (s out₀ : List ℕ) (a : Starts) (n : ℕ) (out : List ℕ) (c : Curs
         emit_gathered l w.book a n (laid out₀ (places_of a) n w.book) (form_at d w.book l) at paired
         ∙ emit_grow out₀ (places_of a) n w.book l fits_now (form_at d w.book l) at fits_next
 
-    pub walk_next : (out' : List ℕ) → out' ≡ emit_of f l x a n out → (x' : Tally) → x' ≡ counted_of f l x → (d' : Due) → d' ≡ due_after f → Walk s out₀ a n out' nx d' x'
+    pub walk_next : (out' : List ℕ) → out' ≡ emit_of f l x a n out → (x' : Tally) → x' ≡ counted_of f l x → (d' : Due) → d' ≡ due_after f → Walk s out₀ a n out' h.next d' x'
     walk_next out' p x' q d' r =
         rw (r, form_is)
         (record {
@@ -261,21 +256,25 @@ module _ (s out₀ : List ℕ) (a : Starts) (n : ℕ) (out : List ℕ) (c : Curs
         })
 
   -- where a found line stands
-  pub walk_bounds : (st en : ℕ) (nx : Cursor) → line_at s c ≡ found.Line st en nx → (st ≤ en) × (en ≤ length s)
-  walk_bounds st en nx e =
-      let k = found_next s c w.ready st en nx e in
+  pub walk_bounds : (h : Line) → line_at s c ≡ Ok h → (h.start ≤ h.end) × (h.end ≤ length s)
+  walk_bounds h e =
+      let k = found_next s c w.ready h e in
       (k.ordered, omega (arith, k.ends, k.ready.inside))
 
-  pub walk_less : (st en : ℕ) (nx : Cursor) → line_at s c ≡ found.Line st en nx → length s - nx.at < length s - c.at
-  walk_less st en nx e =
-      let k = found_next s c w.ready st en nx e in
+  pub walk_less : (h : Line) → line_at s c ≡ Ok h → length s - h.next.at < length s - c.at
+  walk_less h e =
+      let k = found_next s c w.ready h e in
       omega (arith, k.starts, k.ordered, k.ends, k.ready.inside)
 
   -- a cursor in an accepted sheet finds a line
-  pub walk_found : c.at < length s → (r : Refusal) → line_at s c ≡ found.Refused r → ⊥
-  walk_found h r e =
+  walk_found : (r : Refusal) → line_at s c ≡ Err r → c.at < length s → ⊥
+  walk_found r e h =
       refused_not d w.book w.lines c.number (lines_of (drop c.at s)) w.able.content r (line_there s c.at h) w.says (found_refused s c r e)
 
-  pub walk_end : length s ≤ c.at → out ≡ laid out₀ (places_of a) n (book_of s)
+  past_end : length s ≤ c.at → out ≡ laid out₀ (places_of a) n (book_of s)
   unfolding lines_of end_book
-  walk_end h = w.done ∙ ap (laid out₀ (places_of a) n) (sym (ap (end_book d w.book) (ap lines_of (drop_end s c.at h))) ∙ w.last)
+  past_end h = w.done ∙ ap (laid out₀ (places_of a) n) (sym (ap (end_book d w.book) (ap lines_of (drop_end s c.at h))) ∙ w.last)
+
+  -- so the walk goes to its end
+  pub walk_end : (r : Refusal) → line_at s c ≡ Err r → out ≡ laid out₀ (places_of a) n (book_of s)
+  walk_end r e = past_end (omega (arith, walk_found r e))

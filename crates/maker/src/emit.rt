@@ -14,6 +14,7 @@ use stored::items::Starts;
 use text::field::field_of;
 
 // The three texts of a name line, with nothing between.
+#[tactic(auto, using(crate::proofs::NamesPut::names_put))]
 fn put_names(out: &mut [u8], o: usize, line: &[u8])
     requires { o + length (field_of 0 line.now ++ (field_of 1 line.now ++ field_of 2 line.now)) ≤ length out.old }
     ensures { out.new ≡ put out.old o (field_of 0 line.now ++ (field_of 1 line.now ++ field_of 2 line.now)) }
@@ -49,17 +50,11 @@ pub fn emit(form: Form, line: &[u8], x: Tally, a: Starts, n: usize, out: &mut [u
     ensures { out.new ≡ emit_of form line.now x a n out.old }
 {
     match form {
-        Form::Stray => {}
-        Form::Superframe => {}
-        Form::HeaderWord => {}
-        Form::HeaderLine => {}
-        Form::RecordWord => {}
         Form::RecordLine => put_copies(out, a.subframes, x.pairs, n, pair_in(line)),
-        Form::NoneWord => {}
-        Form::ParameterWord => {}
         Form::NameLine => put_names(out, a.text + x.text, line),
-        Form::OpeningComponent => put_component(out, a.components, x.components, part_in(line)),
-        Form::ComponentLine => put_component(out, a.components, x.components, part_in(line)),
+        Form::OpeningComponent | Form::ComponentLine => {
+            put_component(out, a.components, x.components, part_in(line))
+        }
         Form::TimeLine => put_sample(
             out,
             a.samples,
@@ -68,12 +63,8 @@ pub fn emit(form: Form, line: &[u8], x: Tally, a: Starts, n: usize, out: &mut [u
             x.components - x.parts,
             x.parts,
         ),
-        Form::SamplesEnd => {}
-        Form::SignedLine => {}
-        Form::RangeLine => {}
-        Form::SourceLine => {}
-        Form::LabelLine => {}
-        Form::SourceEnd => {}
         Form::ParameterEnd => put_parameter(out, a.parameters, x.parameters, described(x)),
+        // every other line writes nothing
+        _ => {}
     }
 }

@@ -31,6 +31,7 @@ pub struct Described {
 }
 
 // The header: so many entries, and the parts' beginnings. An item that the form lacks is 0 bytes wide.
+#[tactic(auto, using(model::proofs::Rows::known_newest), unfolding(model::specs::Forms::newest, model::specs::Forms::rows))]
 pub fn put_header(out: &mut [u8], n: Counts, a: Starts, total: usize, sequential: bool)
     requires { head_size ≤ length out.old }
     ensures { out.new ≡ put out.old 0 (header (head_by n a total sequential)) }
@@ -61,6 +62,7 @@ pub fn put_header(out: &mut [u8], n: Counts, a: Starts, total: usize, sequential
 }
 
 // The entry at o.
+#[tactic(auto, using(model::proofs::Rows::known_newest), unfolding(model::specs::Forms::newest, model::specs::Forms::rows))]
 pub fn put_subframe(out: &mut [u8], o: usize, p: Pair)
     requires { o + size subframe_part ≤ length out.old }
     ensures { out.new ≡ put out.old o (entry subframe_part (subframe_values (said_subframe p))) }
@@ -75,6 +77,7 @@ pub fn put_subframe(out: &mut [u8], o: usize, p: Pair)
 }
 
 // Entry i of a part that begins at start.
+#[tactic(auto, using(model::proofs::Rows::known_newest), unfolding(model::specs::Forms::newest, model::specs::Forms::rows))]
 pub fn put_parameter(out: &mut [u8], start: usize, i: usize, d: Described)
     requires { start + size parameter_part * i + size parameter_part ≤ length out.old }
     ensures { out.new ≡ put out.old (start + size parameter_part * i) (entry parameter_part (parameter_by d)) }
@@ -92,6 +95,7 @@ pub fn put_parameter(out: &mut [u8], start: usize, i: usize, d: Described)
     put_item(out, o, s.value, d.value as usize);
 }
 
+#[tactic(auto, using(model::proofs::Rows::known_newest), unfolding(model::specs::Forms::newest, model::specs::Forms::rows))]
 pub fn put_sample(out: &mut [u8], start: usize, i: usize, time: u64, first: usize, count: usize)
     requires { start + size sample_part * i + size sample_part ≤ length out.old }
     ensures { out.new ≡ put out.old (start + size sample_part * i) (entry sample_part (sample_by time first count)) }
@@ -103,6 +107,7 @@ pub fn put_sample(out: &mut [u8], start: usize, i: usize, time: u64, first: usiz
     put_item(out, o, s.count, count);
 }
 
+#[tactic(auto, using(model::proofs::Rows::known_newest), unfolding(model::specs::Forms::newest, model::specs::Forms::rows))]
 pub fn put_component(out: &mut [u8], start: usize, i: usize, p: Part)
     requires { start + size component_part * i + size component_part ≤ length out.old }
     ensures { out.new ≡ put out.old (start + size component_part * i) (entry component_part (component_values (said_component p))) }

@@ -8,17 +8,10 @@ ghost use Rattle.maker.specs.Made.{made_of, left_of, made_number};
 use crate::entries::put_header;
 use crate::walk::walk;
 use judge::tally::Tally;
-use judge::walk::{Verdict, judge};
+use judge::walk::{Rejected, judge};
 use stored::forms::NEWEST;
 use stored::items::{Counts, starts_of};
 use text::refusal::{Refusal, refusal_number};
-
-// The table's length, or why there is none and at which line; line 0 where no line is to be named.
-#[derive(Clone, Copy)]
-pub enum Made {
-    Length(usize),
-    Refused { refusal: Refusal, line: u32 },
-}
 
 fn counts_of(x: Tally) -> Counts
     ensures { result ≡ counts_of x }
@@ -39,34 +32,32 @@ fn copies_of(x: Tally) -> usize
 }
 
 // The sheet's table at the front of the lent bytes.
-pub fn make(sheet: &[u8], table: &mut [u8]) -> Made
+// The answer is its length, or why there is none and at which line; line 0 where no line is to be named.
+pub fn make(sheet: &[u8], table: &mut [u8]) -> Result<usize, Rejected>
     ensures { (result ≡ made_of (judge_of sheet.now) (length table.old)) × (table.new ≡ left_of (judge_of sheet.now) table.old) }
 {
-    match judge(sheet) {
-        Verdict::Refused { refusal, line } => Made::Refused { refusal, line },
-        Verdict::Accepted(x) => {
-            let n = counts_of(x);
-            let a = starts_of(NEWEST, n);
-            let total = a.text + x.text;
-            if table.len() < total {
-                return Made::Refused {
-                    refusal: Refusal::TableTooSmall,
-                    line: 0,
-                };
-            }
-            walk(sheet, a, copies_of(x), table);
-            put_header(table, n, a, total, x.sequential);
-            Made::Length(total)
-        }
+    let x = judge(sheet)?;
+    let n = counts_of(x);
+    let a = starts_of(NEWEST, n);
+    let total = a.text + x.text;
+    if table.len() < total {
+        return Err(Rejected {
+            refusal: Refusal::TableTooSmall,
+            line: 0,
+        });
     }
+    walk(sheet, a, copies_of(x), table);
+    put_header(table, n, a, total, x.sequential);
+    Ok(total)
 }
 
 // 01's number of the answer: 1 to 17, or 0 for a table.
-pub fn make_number(m: Made) -> u32
+#[tactic(auto, unfolding(crate::specs::Made::made_number))]
+pub fn make_number(m: Result<usize, Rejected>) -> u32
     ensures { result ≡ made_number m }
 {
     match m {
-        Made::Length(_) => 0,
-        Made::Refused { refusal, line } => refusal_number(refusal),
+        Ok(_) => 0,
+        Err(r) => refusal_number(r.refusal),
     }
 }

@@ -7,7 +7,7 @@ ghost use Rattle.maker.specs.Emit.{places_of, Walkable};
 use crate::emit::emit;
 use judge::tally::{counted, nothing};
 use lineforms::due::{Due, due_after, form_of};
-use lines::{Cursor, Found};
+use lines::Cursor;
 use stored::items::Starts;
 use text::part::between;
 
@@ -19,19 +19,12 @@ pub fn walk(sheet: &[u8], a: Starts, n: usize, out: &mut [u8])
     let mut c = Cursor { at: 0, number: 0 };
     let mut due = Due::HeaderWord;
     let mut x = nothing();
-    while c.at < sheet.len() {
-        match c.next(sheet) {
-            Found::Line { start, end, next } => {
-                let line = between(sheet, start, end);
-                let f = form_of(due, x.pairs, x.declared, line);
-                emit(f, line, x, a, n, out);
-                x = counted(f, line, x);
-                due = due_after(f);
-                c = next;
-            }
-            Found::Refused(_) => {
-                return;
-            }
-        }
+    while let Ok(found) = c.next(sheet) {
+        let line = between(sheet, found.start, found.end);
+        let f = form_of(due, x.pairs, x.declared, line);
+        emit(f, line, x, a, n, out);
+        x = counted(f, line, x);
+        due = due_after(f);
+        c = found.next;
     }
 }

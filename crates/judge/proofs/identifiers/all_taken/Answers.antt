@@ -1,16 +1,16 @@
+use mathlib.Core.Path.{refl, ◌∙◌}
+use borrow.Author.Rules.{rules}
+use borrow.Author.Tests.{tests}
+use Prim.Native.Nat.{◌+◌}
 use native.Mathlib.Omega.{arith}
-use mathlib.Core.Path.{refl}
-use Rattle.judge.proofs.SixteenLaws.{all_taken_more, all_taken_not, all_taken_end}
+use Rattle.std.proofs.lemmas.Iterator.{YieldsList-from_range}
+use Rattle.std.proofs.lemmas.Iterator.Search.{all_from_yields_List}
+use Rattle.judge.specs.Sixteen.{taken_in}
+use Rattle.judge.proofs.Lists.{all_range}
 use Rattle.judge.proofs.identifiers.all_taken.Goals as goal
 
-pub loop-s-init : goal.loop-s-init
-loop-s-init c = record { alike = c.requires; within = omega arith; done = refl }
-
-pub returns-then-not-is_taken : goal.returns-then-not-is_taken
-returns-then-not-is_taken c = all_taken_not _ _ _ _ c.loop-s-test.true _ c.is_taken.ensures c.if-not-is_taken.true
-
-pub loop-s-preserved : goal.loop-s-preserved
-loop-s-preserved c = all_taken_more _ _ _ _ c.loop-s.invariant c.loop-s-test.true _ c.is_taken.ensures c.if-not-is_taken.false
-
 pub returns : goal.returns
-returns c = all_taken_end _ _ _ _ c.loop-s.invariant c.loop-s-test.false
+returns c =
+    let a = c.args in
+    all_from_yields_List (λ s. taken_in a.kept.now (s + 1)) _ _ _ c.all.ensures.ran (YieldsList-from_range 0 a.subframes a.subframes refl (omega arith)) (λ x b q k. search (rules, tests))
+    ∙ all_range a.subframes (λ s. taken_in a.kept.now (s + 1))

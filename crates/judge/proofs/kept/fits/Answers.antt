@@ -1,9 +1,8 @@
 -- A value below two to the 64 is below every higher power.
-use mathlib.Core.Path.{sym, ap}
+use mathlib.Core.Path.{sym, ◌∙◌}
 use Prim.Native.Nat.{◌^◌, ◌≤◌}
 use native.Mathlib.Omega.{arith}
-use borrow.Author.Tests.{lt-ltb}
-use lib.Dec.{ltb}
+use borrow.Author.Tests.{lt-ltb, le-leb}
 use lib.Pow.{pow_mono}
 use Rattle.judge.proofs.kept.fits.Goals as goal
 
@@ -11,7 +10,4 @@ pub returns-then-width-ge64 : goal.returns-then-width-ge64
 returns-then-width-ge64 c =
     let a = c.args in
     let l : 2 ^ 64 ≤ 2 ^ a.width = pow_mono c.if-width-ge64.true in
-    sym (lt-ltb a.value (2 ^ a.width) (omega (arith, l)))
-
-pub returns : goal.returns
-returns c = ap (ltb c.args.value) c.power_of_two.ensures
+    le-leb _ _ c.if-width-ge64.true ∙ sym (lt-ltb a.value (2 ^ a.width) (omega (arith, l)))
