@@ -3,8 +3,7 @@ use mathlib.Core.Path.{◌≡◌, sym, ap, ◌∙◌}
 use mathlib.Core.Bool.{Bool}
 use mathlib.Core.List.{List}
 use Prim.Native.Nat.{ℕ}
-use Rattle.std.specs.Prelude.{Option, Some, None, Result, Err, ok_or, IsErrAnd}
-use Rattle.std.proofs.lemmas.Result.{err_from_is_err_and}
+use Rattle.std.specs.Prelude.{Option, Some}
 use Rattle.std.specs.Borrow.{Bor}
 use Rattle.model.specs.Content.{parameters}
 use Rattle.model.specs.View.{view}
@@ -23,11 +22,3 @@ module _ {b : Bor (List ℕ)} {r : Option RuledTable} (h : OpeningOf (λ (r : Ru
 
   pub opened_told : {t u : Bool} → t ≡ margins_told o.declared.table.bytes.now → t ≡ u → margins_told b.now ≡ u
   opened_told q w = ap (λ (x : Bor (List ℕ)). margins_told x.now) (sym (h.of o e)) ∙ sym q ∙ w
-
--- `o.ok_or(e)?` that goes out goes out with e
-pub none_out : {A T E : Type 0} (o : Option A) (r : Result T E) {y e : E} → IsErrAnd r (λ x. x ≡ y) → ◌≡◌ {A = Result A E} (Err y) (ok_or o e) → r ≡ Err e
-none_out (Some x) r h v = absurd (cc)
-none_out None r {y} {e} h v =
-    let q = err_from_is_err_and r h in
-    let w : y ≡ e = cc in
-    q.1 ∙ ap Err (q.2 ∙ w)

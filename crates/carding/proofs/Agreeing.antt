@@ -18,7 +18,7 @@ use Rattle.model.proofs.Views.{parameters_view, parameter_view}
 use Rattle.rules.specs.Ruled.{Ruled}
 use Rattle.rules.proofs.Identifying.{identifier_at, value_at}
 use Rattle.framing.specs.Comparing.{differs_at, differs_in, compared_in, compared_number}
-use Rattle.framing.specs.declared.compare.Compared.TheVariants.{Passes, Differs}
+use Rattle.std.specs.Prelude.{Some, None, Ok}
 use Rattle.framing.proofs.CompareCases.{none_differs, all_agree}
 use Rattle.carding.specs.Layout.{frame_at}
 use Rattle.carding.specs.Search.{agrees_at, reads_at}
@@ -71,7 +71,7 @@ module _ (b f : List ℕ) (r : Ruled b) where
   abbrev first : ℕ
   first = find (subframes (view b)) (λ s. differs_in (view b) f (s + 1))
 
-  passed : (t : Bool) → ltb first (subframes (view b)) ≡ t → compared_number (cond t (Differs (first + 1)) Passes) ≡ 0 → subframes (view b) ≤ first
+  passed : (t : Bool) → ltb first (subframes (view b)) ≡ t → compared_number (cond t (Ok (Some (first + 1))) (Ok None)) ≡ 0 → subframes (view b) ≤ first
   unfolding compared_number
   passed true e h = absurd (omega arith)
   passed false e h = ltb-false _ _ e

@@ -6,11 +6,11 @@ ghost use Rattle.frame.specs.Page.{PageOf};
 
 use super::fit::fit_of;
 use super::found::Page;
-use super::read::{read_in, read_number};
+use super::read::read_in;
 use framing::page::Outcome;
 use framing::read::Reading;
 use table::check::opening;
-use table::reason::Reason;
+use table::reason::{Reason, answer_number};
 
 // Nothing where the bytes are no table.
 pub fn page_of<'t>(t: &'t [u8], words: &'t [u16]) -> Option<Page<'t>>
@@ -22,26 +22,27 @@ pub fn page_of<'t>(t: &'t [u8], words: &'t [u16]) -> Option<Page<'t>>
 }
 
 // A reading in numbers.
-pub fn outcome_of(reading: Reading) -> Outcome
+#[tactic(auto, unfolding(framing::specs::Outcomes::outcome_of, framing::specs::Reading::read_number))]
+pub fn outcome_of(reading: Result<Reading, Reason>) -> Outcome
     ensures { result ≡ outcome_of reading }
 {
-    let number = read_number(reading);
+    let number = answer_number(&reading);
     match reading {
-        Reading::Sample { raw, width, value } => Outcome {
+        Ok(Reading::Sample { raw, width, value }) => Outcome {
             number,
             kind: 1,
             width,
             raw,
             value,
         },
-        Reading::OverlapDiffers { raw, width, value } => Outcome {
+        Ok(Reading::OverlapDiffers { raw, width, value }) => Outcome {
             number,
             kind: 2,
             width,
             raw,
             value,
         },
-        Reading::Refused(_) => Outcome {
+        Err(_) => Outcome {
             number,
             kind: 0,
             width: 0,
@@ -52,12 +53,12 @@ pub fn outcome_of(reading: Reading) -> Outcome
 }
 
 // What a single read of these numbers answers, without asking the table and the frame again.
-fn read_by(page: &Option<Page>, parameter: u32, sample: u32) -> Reading
+fn read_by(page: &Option<Page>, parameter: u32, sample: u32) -> Result<Reading, Reason>
     ensures { (t w : List ℕ) → PageOf t w page.now → result ≡ read_of t w parameter sample }
 {
     match page {
         Some(p) => read_in(&p.table, p.words, p.fit, parameter, sample),
-        None => Reading::Refused(Reason::NoTable),
+        None => Err(Reason::NoTable),
     }
 }
 

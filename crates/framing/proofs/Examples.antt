@@ -30,8 +30,7 @@ use Rattle.framing.specs.Comparing.{differs_at, differs_in, compared_in, fitted_
 use Rattle.framing.specs.declared.read.Reading.{Reading}
 use Rattle.framing.specs.declared.read.Reading.TheVariants.{Sample as Answer, OverlapDiffers}
 use Rattle.table.specs.declared.reason.Reason.TheVariants.{Overlapped}
-use Rattle.framing.specs.declared.compare.Compared.TheVariants.{Passes, Differs}
-use Rattle.std.specs.Prelude.{Ok, Err}
+use Rattle.std.specs.Prelude.{Some, None, Ok, Err}
 
 pub data Case : Type 0 where
   -- the words, parameter and sample, and the answer
@@ -55,12 +54,12 @@ abbrev pub table : List ℕ
 table = write newest wall
 
 abbrev pub Holds : Case → Type 0
-Holds (reads f p s a) = read_of table f p s ≡ a
+Holds (reads f p s a) = read_of table f p s ≡ Ok a
 Holds (unread f p s n) = read_number (read_of table f p s) ≡ n
 Holds (places f p s v g) = (place_of table f p s v ≡ Ok tt) × (placed_of table f p s v ≡ g)
 Holds (unplaced f p s v n) = (place_number (place_of table f p s v) ≡ n) × (placed_of table f p s v ≡ f)
-Holds (passes f) = compared_of table f ≡ Passes
-Holds (differs f n s) = (compared_number (compared_of table f) ≡ n) × (compared_of table f ≡ Differs s)
+Holds (passes f) = compared_of table f ≡ Ok None
+Holds (differs f n s) = (compared_number (compared_of table f) ≡ n) × (compared_of table f ≡ Ok (Some s))
 Holds (signs w r v) = signed w r ≡ v
 Holds (joins f u s w r) = (width_of (u ∷ []) s ≡ w) × (join f (pieces (u ∷ []) s) ≡ r)
 Holds (laps f a) = (sample_read lapped f 0 0 ≡ a) × (laps_in lapped 1 1 ≡ true)

@@ -1,9 +1,6 @@
-use table::reason::Reason;
-
-// What a read answers: a sample, one whose components hold unlike copies of some bit, or a refusal.
-#[derive(Clone, Copy)]
+// What is read of a listed sample: it, or one whose components hold unlike copies of some bit. Beside it stands the reason of a refusal.
+#[derive(Clone, Copy, PartialEq, Eq, Debug)]
 pub enum Reading {
     Sample { raw: u32, width: u32, value: i64 },
     OverlapDiffers { raw: u32, width: u32, value: i64 },
-    Refused(Reason),
 }

@@ -9,7 +9,8 @@ use Rattle.std.specs.Borrow.{Bor}
 use Rattle.carding.specs.Answer.{searched, handed_for}
 use Rattle.table.proofs.Accepting.{opened_accepted, opened_not}
 use Rattle.carding.proofs.CardCases.{refused_18, refused_27, refused_26, refused_38, answered}
-use Rattle.card.proofs.Opened.{none_out, opened_count, opened_told}
+use Rattle.framing.proofs.Exits.{none_out}
+use Rattle.card.proofs.Opened.{opened_count, opened_told}
 use Rattle.card.proofs.card.card_from.Goals.{Else-r-eq0}
 use Rattle.card.proofs.card.card_from.Goals as goal
 
@@ -36,6 +37,10 @@ pub returns-then-stream-gt-LONGEST_STREAM : goal.returns-then-stream-gt-LONGEST_
 returns-then-stream-gt-LONGEST_STREAM c =
     let e = c.in_ok-r.ensures.ok_part in
     refused_38 _ _ _ _ (opened_accepted c.opening.ensures e) (some (goal.at.returns-then-stream-gt-LONGEST_STREAM c).Else-r-eq0) (opened_told c.opening.ensures e c.margins_told.ensures c.if-not-margins_told.false) c.if-stream-gt-LONGEST_STREAM.true
+
+pub search-requires : goal.search-requires
+search-requires c =
+    record { told = sym c.margins_told.ensures ∙ c.if-not-margins_told.false; stream_len_bound = (c.if-stream-gt-LONGEST_STREAM.false, search rules) }
 
 pub returns : goal.returns
 returns c =

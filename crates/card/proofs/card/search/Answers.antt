@@ -2,7 +2,7 @@
 use mathlib.Core.Path.{refl, sym, ◌∙◌}
 use Rattle.model.specs.View.{view}
 use Rattle.carding.proofs.CardCases.{refused_25, refused_28, handed_out}
-use Rattle.card.proofs.Opened.{none_out}
+use Rattle.framing.proofs.Exits.{none_out}
 use Rattle.card.proofs.Searching.{FoundAt, none_found, found_there}
 use Rattle.card.proofs.card.search.Goals.{In_ok-position}
 use Rattle.card.proofs.card.search.Goals as goal

@@ -2,8 +2,6 @@ use mathlib.Core.Path.{sym, ◌∙◌}
 use native.Mathlib.Omega.{arith}
 use Rattle.lay.proofs.Passing.{passed_none, passed_more, failed, passed_all}
 use Rattle.framing.proofs.Fitness.{all_fit}
-use mathlib.Core.Path.{ap}
-use mathlib.Core.Bool.{not}
 use Rattle.frame.proofs.fit.words_ok.Goals as goal
 
 pub loop-i-init : goal.loop-i-init

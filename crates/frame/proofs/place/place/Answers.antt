@@ -8,16 +8,14 @@ use Rattle.model.specs.Accepts.{accepts}
 use Rattle.framing.specs.Fitting.{Fit}
 use Rattle.framing.specs.Wanted.{wanted_by, wanted_in, wanted_of}
 use Rattle.framing.specs.Placing.{laps_in}
+use Rattle.framing.proofs.Exits.{none_out}
 use Rattle.framing.proofs.PlaceCases.{laps, too_large, done, not_wanted}
 use Rattle.framing.proofs.WantCases.{want_no_table, want_table, wanted_found}
 use mathlib.Core.List.{List}
-use Rattle.std.specs.Prelude.{Option, Some, Result, Err}
-use Rattle.std.specs.Option.{ok_or}
+use Rattle.std.specs.Prelude.{Option, Some}
 use Rattle.sample.specs.Placing.{place as placed}
 use Rattle.model.specs.Content.{parameter, sample}
 use Rattle.model.specs.Samples.{pieces}
-use Rattle.table.specs.declared.reason.Reason.{Reason}
-use Rattle.table.specs.declared.reason.Reason.TheVariants.{NoTable}
 use Rattle.std.specs.Borrow.{Bor}
 use mathlib.Core.Bool.{true}
 use Rattle.stored.specs.Entry.{OpeningOf}
@@ -49,16 +47,11 @@ module _ {b : Bor (List ℕ)} {k : Option RuledTable} {o : RuledTable} (h : Open
   lapped : (p s : ℕ) {t l : Bool} → l ≡ laps_in (view o.declared.table.bytes.now) p s → l ≡ t → (accepts b.now && laps_in (view b.now) p s) ≡ t
   lapped p s v t = ap₂ ◌&&◌ here (sym (ap (λ (x : List ℕ). laps_in (view x) p s) same) ∙ sym v ∙ t)
 
-no_table : (r : Reason) → ◌≡◌ {A = Result RuledTable Reason} (Err r) (Err NoTable) → r ≡ NoTable
-no_table r e = cc
-
 pub returns-in_err-r : goal.returns-in_err-r
 returns-in_err-r c =
     let n = was_not c.opening.ensures c.in_err-r.ensures.ok_part in
-    let q = err_from_is_err_and c.from_residual.result c.from_residual.ensures.1 in
-    let z = no_table _ (c.in_err-r.ensures.value ∙ ap (λ (x : Option RuledTable). ok_or x NoTable) c.in_err-r.ensures.ok_part) in
     let h = not_wanted c.args.t.now c.args.words.now c.args.parameter c.args.sample c.args.value (ap (λ (t : Bool). t && laps_in (view c.args.t.now) c.args.parameter c.args.sample) n) _ (want_no_table c.args.t.now c.args.words.now c.args.parameter c.args.sample n) in
-    rw (q.1, q.2, z) (sym h.answer, sym h.frame)
+    rw (none_out c.opening.result c.from_residual.result c.from_residual.ensures.1 c.in_err-r.ensures.value) (sym h.answer, sym h.frame)
 
 pub returns-then-laps_in : goal.returns-then-laps_in
 returns-then-laps_in c =

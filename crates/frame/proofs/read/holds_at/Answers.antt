@@ -1,18 +1,15 @@
-use mathlib.Core.Path.{refl, sym, ap, ap₂, ◌∙◌, subst}
+use mathlib.Core.Path.{refl, sym, ap₂, ◌∙◌, subst}
 use Prim.Native.Nat.{ℕ, ◌+◌}
 use native.Mathlib.Omega.{arith}
 use borrow.Author.Tests.{eq-eqb, ne_eqb}
-use mathlib.Core.Bool.{not}
 use Rattle.lay.proofs.Below.{sum_more}
 use Rattle.lay.proofs.Passing.{passed_none, passed_more, failed, passed_all}
-use Rattle.lay.proofs.Tests.{holds_not}
 use Rattle.model.specs.Samples.{place_in}
 use Rattle.model.specs.View.{component_at}
 use Rattle.model.specs.Meaning.{ComponentLaw}
 use Rattle.rules.specs.Ruled.{subframes_of}
 use Rattle.rules.proofs.Samplings.{stored}
 use Rattle.framing.proofs.Held.{place_small, whole_in, piece_in, piece_bits, holds_read, holds_all}
-use mathlib.Core.Bool.{not}
 use Rattle.frame.proofs.read.holds_at.Goals as goal
 
 pub sample_at-s-requires : goal.sample_at-s-requires
@@ -80,7 +77,7 @@ loop-k-preserved c =
     let n = piece_bits c.args.f.now.ruled.now.declared.table.bytes.now c.args.j c.requires.sample_law c.args.f.now.words.now c.args.f.now.ruled.now.ruled c.args.f.now.words_len c.loop-k.k (omega (arith, c.loop-k.invariant.passed.counted, c.loop-k-test.true)) c.sample_at-s.ensures.first_is c.piece_at.ensures c.bits_of-at.ensures.0 in
     record {
       passed =
-          passed_more c.loop-k.invariant.passed c.loop-k-test.true (holds_read c.args.f.now.ruled.now.declared.table.bytes.now c.args.j c.requires.sample_law c.args.f.now.words.now c.args.f.now.ruled.now.ruled c.args.f.now.words_len c.loop-k.k (omega (arith, c.loop-k.invariant.passed.counted, c.loop-k-test.true)) c.sample_at-s.ensures.first_is c.args.v c.whole_at-c.ensures c.part.ensures c.bits_of-n.ensures.0 c.field_of.ensures c.loop-k.invariant.place) (ap not (eq-eqb _ _ c.if-part-field_of.false));
+          passed_more c.loop-k.invariant.passed c.loop-k-test.true (holds_read c.args.f.now.ruled.now.declared.table.bytes.now c.args.j c.requires.sample_law c.args.f.now.words.now c.args.f.now.ruled.now.ruled c.args.f.now.words_len c.loop-k.k (omega (arith, c.loop-k.invariant.passed.counted, c.loop-k-test.true)) c.sample_at-s.ensures.first_is c.args.v c.whole_at-c.ensures c.part.ensures c.bits_of-n.ensures.0 c.field_of.ensures c.loop-k.invariant.place) (eq-eqb _ _ c.if-part-field_of.false);
       place = ap₂ ◌+◌ c.loop-k.invariant.place n ∙ sym (sum_more c.loop-k.k _);
       narrow = c.loop-k.invariant.narrow;
     }

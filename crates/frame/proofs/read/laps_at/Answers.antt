@@ -1,5 +1,4 @@
 use mathlib.Core.Path.{refl, sym, ap, ◌∙◌}
-use mathlib.Core.Bool.{not}
 use Prim.Native.Nat.{◌-◌}
 use native.Mathlib.Omega.{arith}
 use borrow.Author.Tests.{eq-eqb}
@@ -7,7 +6,6 @@ use Rattle.lay.proofs.Passing.{passed_none, passed_more, passed_all}
 use Rattle.model.proofs.Views.{components_at}
 use Rattle.rules.proofs.Overlaps.{overlap_read}
 use Rattle.framing.proofs.Held.{some_laps, no_laps}
-use mathlib.Core.Bool.{not}
 use Rattle.frame.proofs.read.laps_at.Goals as goal
 
 pub overflow_sub-last : goal.overflow_sub-last
