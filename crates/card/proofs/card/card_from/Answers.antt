@@ -11,6 +11,7 @@ use Rattle.table.proofs.Accepting.{opened_accepted, opened_not}
 use Rattle.carding.proofs.CardCases.{refused_18, refused_27, refused_26, refused_38, answered}
 use Rattle.framing.proofs.Exits.{none_out}
 use Rattle.card.proofs.Opened.{opened_count, opened_told}
+use borrow.Author.Rules.{rules}
 use Rattle.card.proofs.card.card_from.Goals.{Else-r-eq0}
 use Rattle.card.proofs.card.card_from.Goals as goal
 
