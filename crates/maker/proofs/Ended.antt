@@ -3,7 +3,6 @@ use mathlib.Core.Path.{◌≡◌, sym, subst, ◌∙◌}
 use mathlib.Core.List.{List}
 use mathlib.Core.Logic.{⊎_elim}
 use Prim.Native.Nat.{ℕ, ◌+◌}
-use native.Mathlib.Omega.{arith}
 use Rattle.lines.specs.Lines.{Lines, none, unended, line}
 use Rattle.lineforms.specs.Forms.{due_after}
 use Rattle.lineforms.specs.declared.due.Due.{Due}

@@ -7,7 +7,6 @@ use borrow.Author.Tests.{le-leb, lt-leb}
 use lib.ListN.{length, drop}
 use Rattle.std.specs.Prelude.{Ok, Err}
 use Rattle.lay.specs.Bytes.{put}
-use Rattle.text.specs.declared.refusal.Refusal.{Refusal}
 use Rattle.text.specs.declared.refusal.Refusal.TheVariants.{TableTooSmall}
 use Rattle.model.specs.Content.{Content, Parameter, parameters}
 use Rattle.model.specs.Forms.{newest, limits_of}
@@ -23,7 +22,7 @@ use Rattle.gather.specs.Book.{components_of}
 use Rattle.gather.specs.Ruling.{Ruling, Accepted, Refused, judge_of}
 use Rattle.gather.proofs.AcceptedLawful.{accepted_lawful}
 use Rattle.judge.specs.Counts.{most_count, tally_of}
-use Rattle.judge.specs.Walk.{Verdict, refused, book_of, verdict_of}
+use Rattle.judge.specs.Walk.{Verdict, book_of, verdict_of}
 use Rattle.judge.specs.declared.tally.Tally.{Tally}
 use Rattle.judge.specs.declared.walk.Rejected.{Rejected}
 use Rattle.laying.specs.Parts.{new_layout, head_size, header, copies, laid}
@@ -40,8 +39,8 @@ Leaves s out m after = (m ≡ made_of (judge_of s) (length out)) × (after ≡ l
 
 -- ---- refused
 
-pub leaves_refused : (s out : List ℕ) (r : Rejected) → verdict_of (judge_of s) (tally_of (book_of s)) ≡ Err r → Leaves s out (Err r) out
-leaves_refused s out r e = go (judge_of s) e
+pub leaves_refused : (s out : List ℕ) {r : Rejected} {v : Verdict} → v ≡ verdict_of (judge_of s) (tally_of (book_of s)) → v ≡ Err r → Leaves s out (Err r) out
+leaves_refused s out {r} p e = go (judge_of s) (sym p ∙ e)
   where
     go : (v : Ruling) → verdict_of v (tally_of (book_of s)) ≡ Err r → (◌≡◌ {A = Made} (Err r) (made_of v (length out))) × (out ≡ left_of v out)
     go (Accepted c) p = absurd (cc)
@@ -56,8 +55,8 @@ pub record Taken (s : List ℕ) (x : Tally) : Type 0 where
   pub accepted : judge_of s ≡ Accepted content
   pub counts : x ≡ tally_of (book_of s)
 
-pub taken : (s : List ℕ) (x : Tally) → verdict_of (judge_of s) (tally_of (book_of s)) ≡ Ok x → Taken s x
-taken s x e = go (judge_of s) refl e
+pub taken : {s : List ℕ} {x : Tally} {v : Verdict} → v ≡ verdict_of (judge_of s) (tally_of (book_of s)) → v ≡ Ok x → Taken s x
+taken {s} {x} p e = go (judge_of s) refl (sym p ∙ e)
   where
     go : (r : Ruling) → judge_of s ≡ r → verdict_of r (tally_of (book_of s)) ≡ Ok x → Taken s x
     go (Accepted c) p q = record { content = c; accepted = p; counts = cc }
@@ -127,7 +126,7 @@ module _ (s : List ℕ) (c : Content) (e : judge_of s ≡ Accepted c) where
         (sym (ap (λ (r : Ruling). made_of r (length out)) e ∙ (rw (b, long_book))), t ∙ sym (ap (λ (r : Ruling). left_of r out) e ∙ rw b))
 
 -- the same by the numbers that the code has
-module _ (s : List ℕ) (x : Tally) (t : Taken s x) (n : Counts) (en : n ≡ counts_of x) where
+module _ {s : List ℕ} {x : Tally} (t : Taken s x) {n : Counts} (en : n ≡ counts_of x) where
   booked : n ≡ counts_of (tally_of (book_of s))
   booked = en ∙ ap counts_of t.counts
 
@@ -137,7 +136,7 @@ module _ (s : List ℕ) (x : Tally) (t : Taken s x) (n : Counts) (en : n ≡ cou
   pub taken_text : x.text ≤ most_count
   taken_text = let m = (accepted_ended s t.content t.accepted).small in rw t.counts m.text
 
-  module _ (a : Starts) (ea : StartsBy new_layout n a) where
+  module _ {a : Starts} (ea : StartsBy new_layout n a) where
     starts_booked : StartsBy new_layout (counts_of (tally_of (book_of s))) a
     starts_booked = subst (λ (m : Counts). StartsBy new_layout m a) booked ea
 
@@ -147,7 +146,7 @@ module _ (s : List ℕ) (x : Tally) (t : Taken s x) (n : Counts) (en : n ≡ cou
     pub leaves_small : (out : List ℕ) → length out < a.text + x.text → Leaves s out (unmade TableTooSmall 0) out
     leaves_small out h = small_book s t.content t.accepted a starts_booked out (omega (arith, h, total_booked))
 
-    module _ (f : ℕ) (ef : f ≡ copies x.pairs x.declared) where
+    module _ {f : ℕ} (ef : f ≡ copies x.pairs x.declared) where
       copies_booked : f ≡ copies (tally_of (book_of s)).pairs (tally_of (book_of s)).declared
       copies_booked = ef ∙ ap (λ (z : Tally). copies z.pairs z.declared) t.counts
 

@@ -33,6 +33,7 @@ fn copies_of(x: Tally) -> usize
 
 // The sheet's table at the front of the lent bytes.
 // The answer is its length, or why there is none and at which line; line 0 where no line is to be named.
+#[tactic(auto, using(crate::proofs::Makings::leaves_refused))]
 pub fn make(sheet: &[u8], table: &mut [u8]) -> Result<usize, Rejected>
     ensures { (result ≡ made_of (judge_of sheet.now) (length table.old)) × (table.new ≡ left_of (judge_of sheet.now) table.old) }
 {

@@ -5,9 +5,6 @@ use Rattle.maker.proofs.walk.walk.Goals as goal
 pub loop-found-init : goal.loop-found-init
 loop-found-init c = writing.walk_start _ _ _ _ c.requires _ c.nothing-x.ensures
 
-pub next-requires : goal.next-requires
-next-requires c = c.loop-found.invariant.ready
-
 pub between-line-requires : goal.between-line-requires
 between-line-requires c = writing.walk_bounds c.loop-found.invariant _ (sym c.next.ensures ∙ c.in-Ok.is)
 
