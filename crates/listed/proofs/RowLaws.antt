@@ -31,7 +31,6 @@ use Rattle.model.proofs.Pieces.{width_some}
 use Rattle.framing.specs.Reading.{raw_of, width_is, value_of, copies_agree, sample_read}
 use Rattle.framing.specs.declared.read.Reading.{Reading}
 use Rattle.framing.specs.declared.read.Reading.TheVariants as reading
-use Rattle.table.specs.declared.reason.Reason.{Reason}
 use Rattle.listed.specs.Lines.{row_text}
 use Rattle.listed.specs.Listing.{sample_row, row_most}
 use Rattle.listed.proofs.DecimalLaws.{decimal_short}
@@ -55,17 +54,14 @@ pub record Rows (b : List ℕ) (i : ℕ) (row : ℕ → List ℕ) (each : ℕ) (
 abbrev pub raw_in : Reading → ℕ
 raw_in (reading.Sample r w v) = r
 raw_in (reading.OverlapDiffers r w v) = r
-raw_in (reading.Refused q) = 0
 
 abbrev pub width_in : Reading → ℕ
 width_in (reading.Sample r w v) = w
 width_in (reading.OverlapDiffers r w v) = w
-width_in (reading.Refused q) = 0
 
-abbrev pub value_in : ℤ → Reading → ℤ
-value_in z (reading.Sample r w v) = v
-value_in z (reading.OverlapDiffers r w v) = v
-value_in z (reading.Refused q) = z
+abbrev pub value_in : Reading → ℤ
+value_in (reading.Sample r w v) = v
+value_in (reading.OverlapDiffers r w v) = v
 
 -- of either of two readings
 either : {A : Type 0} {a : A} (g : Reading → A) (t : Bool) {x y : Reading} → g x ≡ a → g y ≡ a → g (cond t x y) ≡ a
@@ -104,9 +100,9 @@ module _ (b : List ℕ) (h : Ruled b) (i : ℕ) (l : i < parameters_in b) where
     unfolding sample_read
     width_read = either width_in (copies_agree (view b) f i j) refl refl
 
-    value_read : (z : ℤ) → value_in z (sample_read (view b) f i j) ≡ value_of (view b) f i j
+    value_read : value_in (sample_read (view b) f i j) ≡ value_of (view b) f i j
     unfolding sample_read
-    value_read z = either (value_in z) (copies_agree (view b) f i j) refl refl
+    value_read = either value_in (copies_agree (view b) f i j) refl refl
 
   -- ---- a listed sample's value fits the machine's number
 
@@ -129,25 +125,17 @@ module _ (b : List ℕ) (h : Ruled b) (i : ℕ) (l : i < parameters_in b) where
         go true = record { sfits = lt_of_lt_of_le (signed_mag (width_is (view b) i j) (raw_of (view b) f i j) width_least (raw_below (view b) f i j)) (pow_mono {j = 63} (omega (arith, width_most))) }
         go false = record { sfits = lt_of_lt_of_le (raw_below (view b) f i j) (pow_mono {j = 63} (omega (arith, width_most))) }
 
-    pub value_back : (q : Reading) (v : ℤ) → q ≡ sample_read (view b) f i j → ((z : ℤ) → v ≡ value_in z q) → to_z w64 (of_z w64 v) ≡ v
-    value_back q v e h = to_z-of_z w64 v (subst (SFits w64) (sym (h v ∙ ap (value_in v) e ∙ value_read f j v)) value_fits)
+    pub value_back : (q : Reading) (v : ℤ) → q ≡ sample_read (view b) f i j → v ≡ value_in q → to_z w64 (of_z w64 v) ≡ v
+    value_back q v e h = to_z-of_z w64 v (subst (SFits w64) (sym (h ∙ ap value_in e ∙ value_read f j)) value_fits)
 
   -- ---- a sample that is read is a row, whether its copies agree or not
 
-  pub read_row : (f out after : List ℕ) (o e j r w : ℕ) (v : ℤ) (q : Reading) (name : List ℕ) → q ≡ sample_read (view b) f i j → (r ≡ raw_in q) × (w ≡ width_in q) × ((z : ℤ) → v ≡ value_in z q) → name ≡ name_in b i → Step out o (row_text name (j + 1) w r v) e after → Step out o (sample_row (view b) f i j) e after
+  pub read_row : (f out after : List ℕ) (o e j r w : ℕ) (v : ℤ) (q : Reading) (name : List ℕ) → q ≡ sample_read (view b) f i j → (r ≡ raw_in q) × (w ≡ width_in q) × (v ≡ value_in q) → name ≡ name_in b i → Step out o (row_text name (j + 1) w r v) e after → Step out o (sample_row (view b) f i j) e after
   unfolding sample_row
   read_row f out after o e j r w v q name x h n s =
       let row : row_text name (j + 1) w r v ≡ row_text (parameter (view b) i).name (j + 1) (width_is (view b) i j) (raw_of (view b) f i j) (value_of (view b) f i j) =
-      λ z. row_text ((n ∙ sym name_is) z) (j + 1) ((h.1 ∙ ap width_in x ∙ width_read f j) z) ((h.0 ∙ ap raw_in x ∙ raw_read f j) z) ((h.2 v ∙ ap (value_in v) x ∙ value_read f j v) z) in
+      λ z. row_text ((n ∙ sym name_is) z) (j + 1) ((h.1 ∙ ap width_in x ∙ width_read f j) z) ((h.0 ∙ ap raw_in x ∙ raw_read f j) z) ((h.2 ∙ ap value_in x ∙ value_read f j) z) in
       subst (λ (x : List ℕ). Step out o x e after) row s
-
-  pub never_refused : (f : List ℕ) (j : ℕ) (q : Reason) → reading.Refused q ≡ sample_read (view b) f i j → ⊥
-  unfolding sample_read
-  never_refused f j q e = go (copies_agree (view b) f i j) e
-    where
-      go : (t : Bool) → reading.Refused q ≡ cond t (reading.Sample (raw_of (view b) f i j) (width_is (view b) i j) (value_of (view b) f i j)) (reading.OverlapDiffers (raw_of (view b) f i j) (width_is (view b) i j) (value_of (view b) f i j)) → ⊥
-      go true e = let z : ◌≡◌ {A = ℕ} 0 1 = cc in omega arith
-      go false e = let z : ◌≡◌ {A = ℕ} 0 1 = cc in omega arith
 
   -- ---- row after row
 

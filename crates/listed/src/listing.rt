@@ -71,6 +71,7 @@ pub fn put_sample(f: &Frame, i: usize, j: usize, out: &mut [u8], o: usize) -> us
     requires row_most_in_bounds { o + row_most ≤ length out.old }
     ensures { (result ≡ o + length (sample_row (view f.now.ruled.now.declared.table.bytes.now) f.now.words.now i j)) × (out.new ≡ put out.old o (sample_row (view f.now.ruled.now.declared.table.bytes.now) f.now.words.now i j)) }
 {
+    // Two arms: of one pattern for both, which binds a signed number, the proof did not close.
     match sample_in(f, i, j) {
         Reading::Sample { raw, width, value } => {
             put_read(f.ruled, i, j, raw, width, value, out, o)
@@ -78,7 +79,6 @@ pub fn put_sample(f: &Frame, i: usize, j: usize, out: &mut [u8], o: usize) -> us
         Reading::OverlapDiffers { raw, width, value } => {
             put_read(f.ruled, i, j, raw, width, value, out, o)
         }
-        Reading::Refused(_) => o,
     }
 }
 

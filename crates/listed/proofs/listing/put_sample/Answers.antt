@@ -1,7 +1,7 @@
--- The sample is read, and its row put; a listed sample is never refused.
+-- The sample is read, and its row put.
 use mathlib.Core.Path.{refl, sym, ◌∙◌}
 use Rattle.listed.proofs.RowSteps.{row_back}
-use Rattle.listed.proofs.RowLaws.{value_back, read_row, never_refused}
+use Rattle.listed.proofs.RowLaws.{value_back, read_row}
 use Rattle.listed.proofs.listing.put_sample.Goals as goal
 
 pub sample_in-requires : goal.sample_in-requires
@@ -19,8 +19,8 @@ returns-in-Sample c =
     let u = c.args.f.now.ruled.now.ruled in
     let l = c.requires.i_bound in
     let e = sym c.in-Sample.is ∙ c.sample_in.ensures in
-    read_row t u c.args.i l _ _ _ _ _ _ _ _ _ _ _ e (refl, refl, λ z. refl) refl
-    (row_back _ _ _ _ _ _ _ _ _ _ (value_back t u c.args.i l c.args.f.now.words.now c.args.j c.requires.j_bound _ _ e (λ z. refl)) c.put_read.ensures)
+    read_row t u c.args.i l _ _ _ _ _ _ _ _ _ _ _ e (refl, refl, refl) refl
+    (row_back _ _ _ _ _ _ _ _ _ _ (value_back t u c.args.i l c.args.f.now.words.now c.args.j c.requires.j_bound _ _ e refl) c.put_read.ensures)
 
 pub returns-in-OverlapDiffers : goal.returns-in-OverlapDiffers
 returns-in-OverlapDiffers c =
@@ -28,9 +28,5 @@ returns-in-OverlapDiffers c =
     let u = c.args.f.now.ruled.now.ruled in
     let l = c.requires.i_bound in
     let e = sym c.in-OverlapDiffers.is ∙ c.sample_in.ensures in
-    read_row t u c.args.i l _ _ _ _ _ _ _ _ _ _ _ e (refl, refl, λ z. refl) refl
-    (row_back _ _ _ _ _ _ _ _ _ _ (value_back t u c.args.i l c.args.f.now.words.now c.args.j c.requires.j_bound _ _ e (λ z. refl)) c.put_read-in-OverlapDiffers.ensures)
-
-pub returns-in-Refused : goal.returns-in-Refused
-returns-in-Refused c =
-    absurd (never_refused c.args.f.now.ruled.now.declared.table.bytes.now c.args.f.now.ruled.now.ruled c.args.i c.requires.i_bound _ _ _ (sym c.in-Refused.is ∙ c.sample_in.ensures))
+    read_row t u c.args.i l _ _ _ _ _ _ _ _ _ _ _ e (refl, refl, refl) refl
+    (row_back _ _ _ _ _ _ _ _ _ _ (value_back t u c.args.i l c.args.f.now.words.now c.args.j c.requires.j_bound _ _ e refl) c.put_read-in-OverlapDiffers.ensures)
