@@ -16,7 +16,8 @@ use Rattle.model.specs.Identifiers.{identifies, taken}
 use Rattle.gather.specs.Book.{Book, empty_book, grow, content_of}
 use Rattle.gather.specs.Tests.{tests_of}
 
--- accepted with its Content, or refused at a line
+-- accepted with its Content, or refused at a line; a type of its own, since the code that has a refusal and its line in one is
+-- the judge's, above
 pub data Ruling : Type 0 where
   Accepted : Content → Ruling
   Refused : Refusal → ℕ → Ruling

@@ -52,7 +52,7 @@ pub fn make(sheet: &[u8], table: &mut [u8]) -> Result<usize, Rejected>
     Ok(total)
 }
 
-// 01's number of the answer: 1 to 17, or 0 for a table.
+// 01's number of the answer: 1 to 17, or 0 for a table. The bench's call of this name hands it out.
 #[tactic(auto, unfolding(crate::specs::Made::made_number))]
 pub fn make_number(m: Result<usize, Rejected>) -> u32
     ensures { result ≡ made_number m }
