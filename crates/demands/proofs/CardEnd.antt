@@ -25,8 +25,7 @@ use Rattle.grammar.specs.Says.{Says}
 use Rattle.maker.specs.declared.make.Made.TheVariants as made
 use Rattle.table.specs.Answers.{check_number}
 use Rattle.table.proofs.Accepting.{accepted_ruled}
-use Rattle.framing.specs.Reading.{raw_of}
-use Rattle.framing.specs.declared.read.Reading.{Reading}
+use Rattle.framing.specs.Reading.{Read, raw_of}
 use Rattle.carding.specs.Layout.{frame_at, source_at, raw_at, held_from, Carries}
 use Rattle.carding.specs.Search.{FirstFrame}
 use Rattle.carding.specs.Answer.{SomeUnknown, carded_number}
@@ -40,14 +39,15 @@ use Rattle.demands.specs.Refusing.{sample_of, components_of, wholes_of, first_br
 use Rattle.demands.specs.Demands.{HasSample, answer_for, differs_for, agree_in, SameAnswers, SameBits, NoOverlap, Demands}
 use Rattle.demands.proofs.Cards.{card_number, Findable, findable}
 use Rattle.demands.proofs.Unbroken.{holds_first}
+use Rattle.std.specs.Prelude.{Ok}
 
 -- what a read of sample j of parameter q must answer, by the sheet and the card: its bits joined where they stand in the stream, and
 -- held against what stands there
-abbrev pub read_from : Content → List ℕ → ℕ → ℕ → ℕ → Reading
+abbrev pub read_from : Content → List ℕ → ℕ → ℕ → ℕ → Read
 read_from c y p q j =
-    cond (held_from c y p (sample_of c q j) (raw_at c y p (q - 1) (j - 1)))
+    Ok (cond (held_from c y p (sample_of c q j) (raw_at c y p (q - 1) (j - 1)))
     (answer_for c q j (raw_at c y p (q - 1) (j - 1)))
-    (differs_for c q j (raw_at c y p (q - 1) (j - 1)))
+    (differs_for c q j (raw_at c y p (q - 1) (j - 1))))
 
 -- a card found at p, by a table t that says c
 pub record CardAsSaid (B : Calls) (t y : List ℕ) (from : ℕ) (w : List ℕ) (p n : ℕ) (c : Content) : Type 0 where
@@ -127,7 +127,7 @@ module _ (B : Calls) (D : Demands B) where
       read_straight : B.read t handed q j ≡ read_from (view t) y p q j
       read_straight =
           D.two.joined t handed q j (D.three.handed_fits t y from w p n e).fitting l
-          ∙ ap₂ (λ (a : Bool) (r : ℕ). cond a (answer_for (view t) q j r) (differs_for (view t) q j r)) agree_straight raw_straight
+          ∙ ap₂ (λ (a : Bool) (r : ℕ). Ok (cond a (answer_for (view t) q j r) (differs_for (view t) q j r))) agree_straight raw_straight
 
     pub card_as_said : CardAsSaid B t y from w p n (view t)
     card_as_said = record { first = found_first; carries = found_carries; reads = read_straight }

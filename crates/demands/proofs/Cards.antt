@@ -20,10 +20,7 @@ use Rattle.model.specs.Content.{Content, parameters}
 use Rattle.model.specs.Frame.{frame_words, words_ok, meets}
 use Rattle.model.specs.View.{view}
 use Rattle.framing.specs.Fitting.{fit_of}
-use Rattle.framing.specs.Comparing.{fitted_compared, compared_of, compared_number}
-use Rattle.framing.specs.declared.compare.Compared.{Compared}
-use Rattle.framing.specs.declared.compare.Compared.TheVariants.{Passes}
-use Rattle.framing.specs.declared.compare.Compared.TheVariants as compared
+use Rattle.framing.specs.Comparing.{Compared, fitted_compared, compared_of, compared_number}
 use Rattle.framing.proofs.CompareCases.{compared_frame}
 use Rattle.carding.specs.Layout.{frame_bits, frame_at, Carries}
 use Rattle.carding.specs.Search.{sought_at, agrees_at, position_from, found_from}
@@ -42,7 +39,7 @@ use Rattle.demands.specs.Refusing.{first_broken, card_rules, bits_rules, has_par
 use Rattle.demands.specs.Demands.{FrameHanded}
 use Rattle.demands.proofs.Numbers.{found_any}
 use Rattle.demands.proofs.Unbroken.{holds_first}
-use Rattle.std.specs.Prelude.{Result, Ok, Err}
+use Rattle.std.specs.Prelude.{Result, Ok, Err, Some, None}
 
 -- ---- the tests of the rules are those of our definitions
 
@@ -160,11 +157,11 @@ meets_words : (c : Content) (f : List ℕ) → meets c f ≡ true → words_ok c
 unfolding meets
 meets_words c f m = rule _ m 1
 
-number_passes : (x : Compared) → compared_number x ≡ 0 → x ≡ Passes
+number_passes : (x : Compared) → compared_number x ≡ 0 → x ≡ Ok None
 unfolding compared_number
-number_passes Passes e = refl
-number_passes (compared.Refused r) e = absurd (reason_some r e)
-number_passes (compared.Differs s) e = absurd (omega arith)
+number_passes (Ok None) e = refl
+number_passes (Err r) e = absurd (reason_some r e)
+number_passes (Ok (Some s)) e = absurd (omega arith)
 
 module _ (t y : List ℕ) (from : ℕ) (w : List ℕ) (h : Findable t y from w) where
   abbrev c : Content
@@ -201,7 +198,7 @@ module _ (t y : List ℕ) (from : ℕ) (w : List ℕ) (h : Findable t y from w) 
   pub front_meets : meets c (take (frame_words c) (handed_of t y from w)) ≡ true
   front_meets = ap (meets c) front ∙ frame_meets c y at
 
-  pub front_passes : compared_of t (take (frame_words c) (handed_of t y from w)) ≡ Passes
+  pub front_passes : compared_of t (take (frame_words c) (handed_of t y from w)) ≡ Ok None
   unfolding fit_of fitted_compared agrees_at
   front_passes =
       let m = frame_meets c y at in

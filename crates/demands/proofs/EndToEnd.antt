@@ -10,13 +10,13 @@ use Rattle.model.specs.View.{view}
 use Rattle.grammar.specs.Says.{Says}
 use Rattle.grammar.proofs.Exactly.{one_saying}
 use Rattle.maker.specs.declared.make.Made.TheVariants as made
-use Rattle.framing.specs.declared.read.Reading.{Reading}
 use Rattle.demands.specs.Calls.{Calls}
 use Rattle.demands.specs.Demands.{HasSample, answer_in, Demands}
 use Rattle.std.specs.Prelude.{Result, Ok, Err}
+use Rattle.framing.specs.Reading.{Read}
 
 -- what a read of sample s of parameter p must answer, by what the sheet says
-abbrev pub read_by : Content → List ℕ → ℕ → ℕ → Reading
+abbrev pub read_by : Content → List ℕ → ℕ → ℕ → Read
 read_by c f p s = answer_in c f p s
 
 -- by a table made of a sheet that says c

@@ -191,7 +191,7 @@ module _ (B : Calls) (K : Kept B) where
           let k = lists_of t p s l in
           (K.places t f p s v).0 ∙ placing-done t p s passed k.parameter_least k.parameter_most k.sample_least k.sample_most z f m v d
 
-      read_back : B.read t (B.placed t f p s v) p s ≡ answer_for (view t) p s v
+      read_back : B.read t (B.placed t f p s v) p s ≡ Ok (answer_for (view t) p s v)
       unfolding width_is width_of components_of meaning
       read_back =
           let k = lists_of t p s l in

@@ -123,7 +123,7 @@ module _ (B : Calls) (D : Demands B) where
       own = ours_meets.two.placed t f p s v (fitting_ours t f x.accepted x.fits) x.there z d
 
       -- a frame that is read back is readable, and joins to the value
-      joins : (g : List ℕ) → read_of t g p s ≡ answer_for (view t) p s v → (length g ≡ length f) × (join g (components_of (view t) p s) ≡ v)
+      joins : (g : List ℕ) → read_of t g p s ≡ Ok (answer_for (view t) p s v) → (length g ≡ length f) × (join g (components_of (view t) p s) ≡ v)
       joins g e =
           let r = readable t g p s (sym (read_number_lem t g p s) ∙ (ap read_number e ∙ (unfold read_number in refl))) in
           (long t g r.fits ∙ sym (long t f x.fits), sym (answer_raw (view t) g p s) ∙ ap raw_in (sym (ours_meets.two.joined t g p s (fitting_ours t g r.accepted r.fits) r.there) ∙ e))

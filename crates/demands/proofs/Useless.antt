@@ -32,14 +32,13 @@ use Rattle.table.proofs.Accepting.{accepted_ruled}
 use Rattle.framing.specs.Reading.{read_number}
 use Rattle.framing.specs.Placing.{place_number}
 use Rattle.framing.specs.Comparing.{compared_number}
-use Rattle.framing.specs.declared.compare.Compared.TheVariants as compared
 use Rattle.demands.specs.Calls.{Calls}
 use Rattle.demands.specs.Refusing.{Rule, rule, components_of, wholes_of, first_broken, place_rules}
 use Rattle.demands.specs.Demands.{HasSample, answer_for, Fitting, FirstDiffering, Demands}
 use Rattle.demands.proofs.Told.{raw_in, answer_raw, one_first}
 use Rattle.demands.proofs.Unbroken.{readable}
 use Rattle.demands.proofs.Wall.{words, others, lower, words_meet, others_meet, lower_meets, sync_listed, pitch_listed, wall_table, made_wall, all_read, says_wall, fitting, there, plain, reads_pitch, pitch_room}
-use Rattle.std.specs.Prelude.{Result, Ok, Err}
+use Rattle.std.specs.Prelude.{Result, Ok, Err, Some}
 
 -- ---- no bytes are no table: 18 stands first in every call
 
@@ -108,7 +107,7 @@ second_kept : bit_in filled second ≡ bit_in lower second → ⊥
 unfolding bit_at
 second_kept e = omega (arith, e)
 
-answer_zero : (c : Content) (p s v : ℕ) → read_number (answer_for c p s v) ≡ 0
+answer_zero : (c : Content) (p s v : ℕ) → read_number (Ok (answer_for c p s v)) ≡ 0
 unfolding read_number
 answer_zero c p s v = refl
 
@@ -196,7 +195,7 @@ module _ (B : Calls) (D : Demands B) where
   no_other_line s l q r k m e h = let x = sym h ∙ (D.one.sheets s l q k).1 (inl e) in ((cc), (cc))
 
   -- an invented subframe number: of whatever table and frame, there is no other
-  pub no_other_subframe : (t f : List ℕ) (s k : ℕ) → B.compare t f ≡ compared.Differs s → FirstDiffering (view t) f k → s ≡ k
+  pub no_other_subframe : (t f : List ℕ) (s k : ℕ) → B.compare t f ≡ Ok (Some s) → FirstDiffering (view t) f k → s ≡ k
   no_other_subframe t f s k e x = one_first (view t) f s k (D.one.subframe_told t f s e) x
 
   -- an item of the table that is no byte, though the table is viewed alike: of whatever sheet, there is none

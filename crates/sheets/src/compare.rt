@@ -2,16 +2,16 @@
 use crate::load::load;
 use crate::say::{number, refused, text};
 use frame::compare::{compare, compare_number};
-use framing::compare::Compared;
 use maker::make::{Made, make};
 use text::part::front;
+use table::reason::Reason;
 use text::refusal::refusal_number;
 
-fn compared_text(rt: &HostRuntime, a: Compared) {
+fn compared_text(rt: &HostRuntime, a: Result<Option<usize>, Reason>) {
     match a {
-        Compared::Passes => text(rt, b"passes"),
-        Compared::Differs(s) => refused(rt, compare_number(a), s as u64),
-        Compared::Refused(_) => refused(rt, compare_number(a), 0),
+        Ok(None) => text(rt, b"passes"),
+        Ok(Some(s)) => refused(rt, compare_number(a), s as u64),
+        Err(_) => refused(rt, compare_number(a), 0),
     }
 }
 

@@ -42,7 +42,6 @@ fn value_in(
             width: _,
             value,
         } => value,
-        Reading::Refused(_) => 0,
     }
 }
 

@@ -6,9 +6,9 @@ use crate::cursor::Cursor;
 use crate::say::{reading, three};
 use crate::sum::of_words;
 use bench::frames::{compare, compare_number, place, place_number, read, read_number};
-use framing::compare::Compared;
 use framing::read::Reading;
 use listed::listing::put_words;
+use table::reason::Reason;
 use text::part::between;
 
 // A table from start to end, and a frame's words, two bytes each.
@@ -56,9 +56,11 @@ fn read_line(rt: &HostRuntime, t: &[u8], words: &[u16], parameter: u32, sample: 
     let answer = read(t, words, parameter, sample);
     let number = read_number(answer);
     match answer {
-        Reading::Sample { raw, width, value } => reading(rt, number, 1, width, raw, value),
-        Reading::OverlapDiffers { raw, width, value } => reading(rt, number, 2, width, raw, value),
-        Reading::Refused(_) => reading(rt, number, 0, 0, 0, 0),
+        Ok(Reading::Sample { raw, width, value }) => reading(rt, number, 1, width, raw, value),
+        Ok(Reading::OverlapDiffers { raw, width, value }) => {
+            reading(rt, number, 2, width, raw, value)
+        }
+        Err(_) => reading(rt, number, 0, 0, 0, 0),
     }
 }
 
@@ -123,11 +125,10 @@ pub fn place_case(rt: &HostRuntime, s: &[u8], c: Cursor, words: &mut [u16]) -> C
 }
 
 // The subframe that differs, or 0.
-fn subframe_of(answer: Compared) -> u64 {
+fn subframe_of(answer: Result<Option<usize>, Reason>) -> u64 {
     match answer {
-        Compared::Differs(subframe) => subframe as u64,
-        Compared::Passes => 0,
-        Compared::Refused(_) => 0,
+        Ok(Some(subframe)) => subframe as u64,
+        Ok(None) | Err(_) => 0,
     }
 }
 
