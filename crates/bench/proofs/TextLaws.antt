@@ -17,9 +17,7 @@ use Rattle.model.specs.View.{view}
 use Rattle.model.proofs.Views.{parameters_view}
 use Rattle.table.specs.Answers.{numbered_of, asked_number, name_answered}
 use Rattle.table.proofs.Accepting.{accepted_ruled}
-use Rattle.framing.specs.Reading.{read_of}
-use Rattle.framing.specs.declared.read.Reading.{Reading}
-use Rattle.framing.specs.declared.read.Reading.TheVariants as reading
+use Rattle.framing.specs.Reading.{Read, read_of}
 use Rattle.table.specs.declared.reason.Reason.{Reason}
 use Rattle.table.specs.declared.reason.Reason.TheVariants.{NoTable, NoParameter}
 use Rattle.listed.specs.Lines.{row_text}
@@ -38,20 +36,20 @@ fills_some text lent after need n h e p = let b = le-leb need (length lent) h in
 
 -- ---- a row
 
-row_found : (b f : List ℕ) (p s r w : ℕ) (v : ℤ) (q : Reading) → read_of b f p s ≡ q → row_of (name_answered b (asked_number b p)) s q ≡ row_text (name_answered b (asked_number b p)) s w r v → row_for b f p s ≡ row_text (name_answered b (asked_number b p)) s w r v
+row_found : (b f : List ℕ) (p s r w : ℕ) (v : ℤ) (q : Read) → read_of b f p s ≡ q → row_of (name_answered b (asked_number b p)) s q ≡ row_text (name_answered b (asked_number b p)) s w r v → row_for b f p s ≡ row_text (name_answered b (asked_number b p)) s w r v
 unfolding row_for
 row_found b f p s r w v q e h = ap (row_of (name_answered b (asked_number b p)) s) e ∙ h
 
-row_missing : (b f : List ℕ) (p s : ℕ) (q : Reason) → read_of b f p s ≡ reading.Refused q → row_for b f p s ≡ []
+row_missing : (b f : List ℕ) (p s : ℕ) (q : Reason) → read_of b f p s ≡ Err q → row_for b f p s ≡ []
 unfolding row_for row_of
 row_missing b f p s q e = ap (row_of (name_answered b (asked_number b p)) s) e
 
-pub row_fills : (b f lent after : List ℕ) (p s r w n : ℕ) (v : ℤ) (q : Reading) → row_most ≤ length lent → read_of b f p s ≡ q → row_of (name_answered b (asked_number b p)) s q ≡ row_text (name_answered b (asked_number b p)) s w r v → (n ≡ 0 + length (row_text (name_answered b (asked_number b p)) s w r v)) × (after ≡ put lent 0 (row_text (name_answered b (asked_number b p)) s w r v)) → Fills (row_for b f p s) row_most lent n after
+pub row_fills : (b f lent after : List ℕ) (p s r w n : ℕ) (v : ℤ) (q : Read) → row_most ≤ length lent → read_of b f p s ≡ q → row_of (name_answered b (asked_number b p)) s q ≡ row_text (name_answered b (asked_number b p)) s w r v → (n ≡ 0 + length (row_text (name_answered b (asked_number b p)) s w r v)) × (after ≡ put lent 0 (row_text (name_answered b (asked_number b p)) s w r v)) → Fills (row_for b f p s) row_most lent n after
 row_fills b f lent after p s r w n v q h e k t =
     let row : row_text (name_answered b (asked_number b p)) s w r v ≡ row_for b f p s = sym (row_found b f p s r w v q e k) in
     fills_some (row_for b f p s) lent after row_most n h (omega (arith, t.0, ap length row)) (t.1 ∙ ap (put lent 0) row)
 
-pub row_none : (b f lent : List ℕ) (p s : ℕ) (q : Reason) → row_most ≤ length lent → read_of b f p s ≡ reading.Refused q → Fills (row_for b f p s) row_most lent 0 lent
+pub row_none : (b f lent : List ℕ) (p s : ℕ) (q : Reason) → row_most ≤ length lent → read_of b f p s ≡ Err q → Fills (row_for b f p s) row_most lent 0 lent
 row_none b f lent p s q h e =
     let m = row_missing b f p s q e in
     fills_some (row_for b f p s) lent lent row_most 0 h (sym (ap length m)) (sym (ap (put lent 0) m ∙ put_none lent 0))

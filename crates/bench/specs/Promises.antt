@@ -2,20 +2,16 @@
 use Rattle.std.specs.Prelude.{ℕ, ◌≡◌, List, length}
 use Rattle.std.specs.Borrow.{Bor}
 use Rattle.gather.specs.Ruling.{judge_of}
-use Rattle.maker.specs.Made.{made_of, left_of, made_number}
-use Rattle.maker.specs.declared.make.Made.{Made}
+use Rattle.maker.specs.Made.{made_of, left_of, made_number, Made}
 use Rattle.table.specs.Answers.{Checked, check_of, check_number, NameOf, asked_number, asked_mnemonic, asked_refusal}
-use Rattle.framing.specs.Reading.{read_of, read_number}
+use Rattle.framing.specs.Reading.{Read, read_of, read_number}
 use Rattle.framing.specs.Placing.{Placed, place_of, placed_of, place_number}
-use Rattle.framing.specs.Comparing.{compared_of, compared_number}
+use Rattle.framing.specs.Comparing.{Compared, compared_of, compared_number}
 use Rattle.framing.specs.Paging.{paged_of, results_of}
 use Rattle.framing.specs.declared.page.Request.{Request}
 use Rattle.framing.specs.declared.page.Outcome.{Outcome}
 use Rattle.framing.specs.declared.page.Paged.{Paged}
-use Rattle.framing.specs.declared.read.Reading.{Reading}
-use Rattle.framing.specs.declared.compare.Compared.{Compared}
-use Rattle.carding.specs.Answer.{carded_of, handed_of, carded_number, bits_of_frame}
-use Rattle.carding.specs.declared.carded.Carded.{Carded}
+use Rattle.carding.specs.Answer.{carded_of, handed_of, carded_number, bits_of_frame, Carded}
 
 -- ---- a sheet
 
@@ -49,10 +45,10 @@ NameByNumbered table mnemonic n = n ≡ asked_refusal (asked_mnemonic table mnem
 
 -- ---- a frame: table, words, parameter, sample
 
-abbrev pub Reads : List ℕ → List ℕ → ℕ → ℕ → Reading → Type 0
+abbrev pub Reads : List ℕ → List ℕ → ℕ → ℕ → Read → Type 0
 Reads table words parameter sample reading = reading ≡ read_of table words parameter sample
 
-abbrev pub ReadNumbered : Reading → ℕ → Type 0
+abbrev pub ReadNumbered : Read → ℕ → Type 0
 ReadNumbered reading n = n ≡ read_number reading
 
 -- value; answer, the words afterwards

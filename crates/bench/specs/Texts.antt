@@ -1,9 +1,8 @@
 -- What the calls for the listing's texts promise.
-use Rattle.std.specs.Prelude.{ℕ, ◌/◌, ◌%◌, Bool, cond, not, ◌&&◌, ◌≡◌, List, [], eqb, leb, length}
+use Rattle.std.specs.Prelude.{ℕ, ◌/◌, ◌%◌, Bool, cond, not, ◌&&◌, ◌≡◌, List, [], eqb, leb, length, Ok, Err}
 use Rattle.lay.specs.Bytes.{put}
 use Rattle.table.specs.Answers.{asked_number, name_answered}
-use Rattle.framing.specs.Reading.{read_of}
-use Rattle.framing.specs.declared.read.Reading.{Reading}
+use Rattle.framing.specs.Reading.{Read, read_of}
 use Rattle.framing.specs.declared.read.Reading.TheVariants as reading
 use Rattle.listed.specs.Lines.{row_text}
 use Rattle.listed.specs.Listing.{words_of}
@@ -14,10 +13,10 @@ Fills text need lent n after =
     (n ≡ cond (leb need (length lent)) (length text) 0) × (after ≡ cond (leb need (length lent)) (put lent 0 text) lent)
 
 -- the row of what is read, by the table's name for the parameter
-unfoldable pub row_of : List ℕ → ℕ → Reading → List ℕ
-row_of name sample (reading.Sample raw width value) = row_text name sample width raw value
-row_of name sample (reading.OverlapDiffers raw width value) = row_text name sample width raw value
-row_of name sample (reading.Refused w) = []
+unfoldable pub row_of : List ℕ → ℕ → Read → List ℕ
+row_of name sample (Ok (reading.Sample raw width value)) = row_text name sample width raw value
+row_of name sample (Ok (reading.OverlapDiffers raw width value)) = row_text name sample width raw value
+row_of name sample (Err w) = []
 
 unfoldable pub row_for : List ℕ → List ℕ → ℕ → ℕ → List ℕ
 row_for table words p s = row_of (name_answered table (asked_number table p)) s (read_of table words p s)

@@ -1,21 +1,21 @@
 // A frame read, filled and compared by a table. Parameters and samples are counted from 1.
 ghost use Rattle.bench.specs.Promises.{Reads, ReadNumbered, Places, PlaceNumbered, Compares, CompareNumbered};
 
-use framing::compare::Compared;
 use framing::read::Reading;
 use table::reason::{Reason, answer_number};
 
-pub fn read(t: &[u8], words: &[u16], parameter: u32, sample: u32) -> Reading
+pub fn read(t: &[u8], words: &[u16], parameter: u32, sample: u32) -> Result<Reading, Reason>
     ensures { Reads t.now words.now parameter sample result }
 {
     frame::read::read(t, words, parameter, sample)
 }
 
 // 0, 18, 21, 22, 19 or 20.
-pub fn read_number(reading: Reading) -> u32
+#[tactic(auto, unfolding(framing::specs::Reading::read_number))]
+pub fn read_number(reading: Result<Reading, Reason>) -> u32
     ensures { ReadNumbered reading result }
 {
-    frame::read::read_number(reading)
+    answer_number(&reading)
 }
 
 // A raw value placed; no word is changed where it is refused.
@@ -39,14 +39,14 @@ pub fn place_number(placed: Result<(), Reason>) -> u32
 }
 
 // The frame against its identifiers.
-pub fn compare(t: &[u8], words: &[u16]) -> Compared
+pub fn compare(t: &[u8], words: &[u16]) -> Result<Option<usize>, Reason>
     ensures { Compares t.now words.now result }
 {
     frame::compare::compare(t, words)
 }
 
 // 0, 18, 19, 20 or 24.
-pub fn compare_number(compared: Compared) -> u32
+pub fn compare_number(compared: Result<Option<usize>, Reason>) -> u32
     ensures { CompareNumbered compared result }
 {
     frame::compare::compare_number(compared)

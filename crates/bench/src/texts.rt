@@ -65,14 +65,15 @@ pub fn row(t: &[u8], words: &[u16], parameter: u32, sample: u32, out: &mut [u8])
     if out.len() < ROW {
         return 0;
     }
+    // Two arms: of one pattern for both, which binds a signed number, the proof did not close.
     match read(t, words, parameter, sample) {
-        Reading::Sample { raw, width, value } => {
+        Ok(Reading::Sample { raw, width, value }) => {
             put_named(t, parameter, sample, raw, width, value, out)
         }
-        Reading::OverlapDiffers { raw, width, value } => {
+        Ok(Reading::OverlapDiffers { raw, width, value }) => {
             put_named(t, parameter, sample, raw, width, value, out)
         }
-        Reading::Refused(_) => 0,
+        Err(_) => 0,
     }
 }
 

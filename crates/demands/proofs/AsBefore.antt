@@ -29,7 +29,6 @@ use Rattle.framing.specs.Wanted.{wanted_in, wanted_of}
 use Rattle.framing.specs.Reading.{read_for, read_of}
 use Rattle.framing.specs.Placing.{laps_in, place_for, place_of, placed_for, placed_of}
 use Rattle.framing.specs.Comparing.{fitted_compared, compared_in, compared_of}
-use Rattle.framing.specs.declared.compare.Compared.TheVariants as compared
 use Rattle.framing.proofs.WantCases.{wanted_found}
 use Rattle.framing.specs.Wanted.{has_parameter, has_sample}
 use Rattle.demands.proofs.Unlapped.{base_read, base_place, base_placed, base_compared, plain_read, plain_place, plain_placed, none_overlaps, plain_compared}
@@ -53,7 +52,7 @@ module _ (b : List ℕ) where
     pub reads : (f : List ℕ) (p s : ℕ) → read_of b f p s ≡ base_read (base_view b) f (base_wanted f p s)
     pub places : (f : List ℕ) (p s v : ℕ) → place_of b f p s v ≡ base_place (base_view b) (base_wanted f p s) v
     pub placed : (f : List ℕ) (p s v : ℕ) → placed_of b f p s v ≡ base_placed (base_view b) f (base_wanted f p s) v
-    pub compares : (f : List ℕ) → compared_of b f ≡ cond (base_accepts b) (fitted_compared (fit_of (base_view b) f) (base_compared (base_view b) f)) (compared.Refused NoTable)
+    pub compares : (f : List ℕ) → compared_of b f ≡ cond (base_accepts b) (fitted_compared (fit_of (base_view b) f) (base_compared (base_view b) f)) (Err NoTable)
     pub asks : (p : ℕ) → asked_number b p ≡ base_numbered p
     pub asks_by : (m : List ℕ) → asked_mnemonic b m ≡ base_called m
     pub names : (i : ℕ) → base_accepts b ≡ true → name_answered b (Ok i) ≡ (parameter (base_view b) i).name
@@ -114,11 +113,11 @@ module _ (b : List ℕ) (none : (limits_in b).overlap ≡ 0) where
   plain_leaves f p s v =
       rw (none_laps p s) (either_way (λ w. placed_for (view b) f w v) (λ w. base_placed (view b) f w v) f p s (λ i j z. plain_placed (view b) i j z f v) (λ r. refl))
 
-  pub plain_compares : (f : List ℕ) → compared_of b f ≡ cond (accepts b) (fitted_compared (fit_of (view b) f) (base_compared (view b) f)) (compared.Refused NoTable)
+  pub plain_compares : (f : List ℕ) → compared_of b f ≡ cond (accepts b) (fitted_compared (fit_of (view b) f) (base_compared (view b) f)) (Err NoTable)
   unfolding compared_of
   plain_compares f = go (accepts b) refl
     where
-      go : (t : Bool) → accepts b ≡ t → cond t (fitted_compared (fit_of (view b) f) (compared_in (view b) f)) (compared.Refused NoTable) ≡ cond t (fitted_compared (fit_of (view b) f) (base_compared (view b) f)) (compared.Refused NoTable)
+      go : (t : Bool) → accepts b ≡ t → cond t (fitted_compared (fit_of (view b) f) (compared_in (view b) f)) (Err NoTable) ≡ cond t (fitted_compared (fit_of (view b) f) (base_compared (view b) f)) (Err NoTable)
       go true h = ap (fitted_compared (fit_of (view b) f)) (plain_compared (limits_in b) none (view b) (lawfully h) f)
       go false h = refl
 
@@ -131,7 +130,7 @@ as_before b one =
       reads = λ f p s. plain_reads b none f p s ∙ base_kept b one (λ t c. base_read c f (cond t (wanted_in c f p s) (Err NoTable))) (λ c d. refl);
       places = λ f p s v. plain_places b none f p s v ∙ base_kept b one (λ t c. base_place c (cond t (wanted_in c f p s) (Err NoTable)) v) (λ c d. refl);
       placed = λ f p s v. plain_leaves b none f p s v ∙ base_kept b one (λ t c. base_placed c f (cond t (wanted_in c f p s) (Err NoTable)) v) (λ c d. refl);
-      compares = λ f. plain_compares b none f ∙ base_kept b one (λ t c. cond t (fitted_compared (fit_of c f) (base_compared c f)) (compared.Refused NoTable)) (λ c d. refl);
+      compares = λ f. plain_compares b none f ∙ base_kept b one (λ t c. cond t (fitted_compared (fit_of c f) (base_compared c f)) (Err NoTable)) (λ c d. refl);
       asks = λ p. base_kept b one (λ t c. cond t (numbered c p) (Err NoTable)) (λ c d. refl);
       asks_by = λ m. base_kept b one (λ t c. cond t (called c m) (Err NoTable)) (λ c d. refl);
       names = λ i h. ap (λ (c : Content). (parameter c i).name) (base_view_lem b one (base_accepts_lem b one ∙ h));

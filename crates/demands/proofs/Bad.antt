@@ -4,23 +4,20 @@ use Prim.Native.Nat.{ℕ}
 use mathlib.Core.Path.{◌≡◌, refl}
 use mathlib.Core.List.{List, []}
 use lib.IntN.{pos}
-use Rattle.framing.specs.Reading.{read_of, read_number}
+use Rattle.framing.specs.Reading.{Read, read_of, read_number}
 use Rattle.framing.specs.Placing.{place_of, placed_of}
-use Rattle.framing.specs.declared.read.Reading.{Reading}
-use Rattle.framing.specs.declared.read.Reading.TheVariants as reading
-use Rattle.framing.specs.declared.compare.Compared.TheVariants as compared
+use Rattle.framing.specs.declared.read.Reading.TheVariants.{Sample}
 use Rattle.demands.specs.Calls.{Calls}
 use Rattle.demands.specs.Demands.{Demands}
 use Rattle.demands.proofs.Ours.{ours}
 use Rattle.demands.proofs.Useless.{some_read_refused}
-use Rattle.std.specs.Prelude.{Result, Ok, Err}
+use Rattle.std.specs.Prelude.{Result, Ok, Err, None}
 use Rattle.framing.specs.Placing.{Placed}
 
 -- a refused read is answered with 7 of 3 bits
-abbrev answered : Reading → Reading
-answered (reading.Sample r w v) = reading.Sample r w v
-answered (reading.OverlapDiffers r w v) = reading.OverlapDiffers r w v
-answered (reading.Refused w) = reading.Sample 7 3 (pos 7)
+abbrev answered : Read → Read
+answered (Ok r) = Ok r
+answered (Err w) = Ok (Sample 7 3 (pos 7))
 
 -- the words are wiped on bad input
 abbrev wiped : Placed → List ℕ → List ℕ
@@ -36,7 +33,7 @@ bad =
       read = λ t f p s. answered (read_of t f p s);
       place = λ t f p s v. (Ok tt);
       placed = λ t f p s v. wiped (place_of t f p s v) (placed_of t f p s v);
-      compare = λ t f. compared.Passes;
+      compare = λ t f. Ok None;
       page = ours.page;
       paged = ours.paged;
       name = ours.name;
@@ -53,7 +50,6 @@ bad =
 pub bad_refuted : Demands bad → ⊥
 bad_refuted D = some_read_refused bad D (λ t f p s. go (read_of t f p s))
   where
-    go : (r : Reading) → read_number (answered r) ≡ 0
-    go (reading.Sample r w v) = unfold read_number in refl
-    go (reading.OverlapDiffers r w v) = unfold read_number in refl
-    go (reading.Refused w) = unfold read_number in refl
+    go : (r : Read) → read_number (answered r) ≡ 0
+    go (Ok r) = unfold read_number in refl
+    go (Err w) = unfold read_number in refl

@@ -22,15 +22,12 @@ use Rattle.model.specs.View.{view}
 use Rattle.model.proofs.Rows.{not_first}
 use Rattle.model.proofs.Views.{parameters_view}
 use Rattle.grammar.specs.Says.{Says}
-use Rattle.maker.specs.declared.make.Made.TheVariants as made
 use Rattle.table.specs.Answers.{check_number}
 use Rattle.table.proofs.Accepting.{accepted_ruled}
-use Rattle.framing.specs.Reading.{raw_of}
-use Rattle.framing.specs.declared.read.Reading.{Reading}
+use Rattle.framing.specs.Reading.{Read, raw_of}
 use Rattle.carding.specs.Layout.{frame_at, source_at, raw_at, held_from, Carries}
 use Rattle.carding.specs.Search.{FirstFrame}
-use Rattle.carding.specs.Answer.{SomeUnknown, carded_number}
-use Rattle.carding.specs.declared.carded.Carded.TheVariants.{Found}
+use Rattle.carding.specs.Answer.{SomeUnknown, carded_number, found_at}
 use Rattle.carding.proofs.Back.{carried}
 use Rattle.carding.proofs.CardCases.{found_same}
 use Rattle.carding.proofs.Untold.{not_told, refused_exactly}
@@ -40,14 +37,16 @@ use Rattle.demands.specs.Refusing.{sample_of, components_of, wholes_of, first_br
 use Rattle.demands.specs.Demands.{HasSample, answer_for, differs_for, agree_in, SameAnswers, SameBits, NoOverlap, Demands}
 use Rattle.demands.proofs.Cards.{card_number, Findable, findable}
 use Rattle.demands.proofs.Unbroken.{holds_first}
+use Rattle.std.specs.Prelude.{Ok}
+use Rattle.maker.specs.Made.{unmade}
 
 -- what a read of sample j of parameter q must answer, by the sheet and the card: its bits joined where they stand in the stream, and
 -- held against what stands there
-abbrev pub read_from : Content → List ℕ → ℕ → ℕ → ℕ → Reading
+abbrev pub read_from : Content → List ℕ → ℕ → ℕ → ℕ → Read
 read_from c y p q j =
-    cond (held_from c y p (sample_of c q j) (raw_at c y p (q - 1) (j - 1)))
+    Ok (cond (held_from c y p (sample_of c q j) (raw_at c y p (q - 1) (j - 1)))
     (answer_for c q j (raw_at c y p (q - 1) (j - 1)))
-    (differs_for c q j (raw_at c y p (q - 1) (j - 1)))
+    (differs_for c q j (raw_at c y p (q - 1) (j - 1))))
 
 -- a card found at p, by a table t that says c
 pub record CardAsSaid (B : Calls) (t y : List ℕ) (from : ℕ) (w : List ℕ) (p n : ℕ) (c : Content) : Type 0 where
@@ -69,7 +68,7 @@ module _ (B : Calls) (D : Demands B) where
       let r = refused_exactly t (holds_first (accepts t) 0 18 (omega arith) h).0 some y from w in
       (λ e. r.0 (sym n ∙ e), λ u. n ∙ r.1 u)
 
-  module _ (t y : List ℕ) (from : ℕ) (w : List ℕ) (p n : ℕ) (e : B.card_from t y from w ≡ Found p n) where
+  module _ (t y : List ℕ) (from : ℕ) (w : List ℕ) (p n : ℕ) (e : B.card_from t y from w ≡ found_at p n) where
     unbroken : first_broken (card_rules t y from w) ≡ 0
     unfolding carded_number
     unbroken = sym (D.one.cards t y from w) ∙ ap carded_number e
@@ -127,21 +126,21 @@ module _ (B : Calls) (D : Demands B) where
       read_straight : B.read t handed q j ≡ read_from (view t) y p q j
       read_straight =
           D.two.joined t handed q j (D.three.handed_fits t y from w p n e).fitting l
-          ∙ ap₂ (λ (a : Bool) (r : ℕ). cond a (answer_for (view t) q j r) (differs_for (view t) q j r)) agree_straight raw_straight
+          ∙ ap₂ (λ (a : Bool) (r : ℕ). Ok (cond a (answer_for (view t) q j r) (differs_for (view t) q j r))) agree_straight raw_straight
 
     pub card_as_said : CardAsSaid B t y from w p n (view t)
     card_as_said = record { first = found_first; carries = found_carries; reads = read_straight }
 
   -- the whole way: a sheet, its table, a card, the value
-  pub card_to_value : (s l : List ℕ) (n : ℕ) (c : Content) → Says s c → B.make s l ≡ made.Length n
-      → (y : List ℕ) (from : ℕ) (w : List ℕ) (p k : ℕ) → B.card_from (take n (B.made s l)) y from w ≡ Found p k
+  pub card_to_value : (s l : List ℕ) (n : ℕ) (c : Content) → Says s c → B.make s l ≡ Ok n
+      → (y : List ℕ) (from : ℕ) (w : List ℕ) (p k : ℕ) → B.card_from (take n (B.made s l)) y from w ≡ found_at p k
       → CardAsSaid B (take n (B.made s l)) y from w p k c
   card_to_value s l n c h m y from w p k e =
       subst (CardAsSaid B (take n (B.made s l)) y from w p k) (D.two.sheet.says s l n c m h)
       (card_as_said (take n (B.made s l)) y from w p k e)
 
   -- and where there is none: by a sheet's table a card is refused 26 exactly where the sheet leaves a margin blank
-  pub blank_refused : (s l : List ℕ) (n : ℕ) (c : Content) → Says s c → B.make s l ≡ made.Length n → (parameters c ≡ 0 → ⊥)
+  pub blank_refused : (s l : List ℕ) (n : ℕ) (c : Content) → Says s c → B.make s l ≡ Ok n → (parameters c ≡ 0 → ⊥)
       → (y : List ℕ) (from : ℕ) (w : List ℕ) → (carded_number (B.card_from (take n (B.made s l)) y from w) ≡ 26) ↔ SomeUnknown c
   unfolding check_number
   blank_refused s l n c h m some y from w =
@@ -154,8 +153,8 @@ module _ (B : Calls) (D : Demands B) where
 
   -- demand 3 over cards: two of them whose streams agree at every named bit give equal answers for all samples; by a table without
   -- overlap exactly then
-  module _ (t y : List ℕ) (from : ℕ) (w : List ℕ) (p n : ℕ) (e : B.card_from t y from w ≡ Found p n)
-      (z : List ℕ) (since : ℕ) (v : List ℕ) (q m : ℕ) (d : B.card_from t z since v ≡ Found q m) where
+  module _ (t y : List ℕ) (from : ℕ) (w : List ℕ) (p n : ℕ) (e : B.card_from t y from w ≡ found_at p n)
+      (z : List ℕ) (since : ℕ) (v : List ℕ) (q m : ℕ) (d : B.card_from t z since v ≡ found_at q m) where
     abbrev f : List ℕ
     f = take n (B.handed_from t y from w)
 

@@ -20,16 +20,11 @@ use Rattle.model.specs.Content.{Content, parameters}
 use Rattle.model.specs.Frame.{frame_words, words_ok, meets}
 use Rattle.model.specs.View.{view}
 use Rattle.framing.specs.Fitting.{fit_of}
-use Rattle.framing.specs.Comparing.{fitted_compared, compared_of, compared_number}
-use Rattle.framing.specs.declared.compare.Compared.{Compared}
-use Rattle.framing.specs.declared.compare.Compared.TheVariants.{Passes}
-use Rattle.framing.specs.declared.compare.Compared.TheVariants as compared
+use Rattle.framing.specs.Comparing.{Compared, fitted_compared, compared_of, compared_number}
 use Rattle.framing.proofs.CompareCases.{compared_frame}
 use Rattle.carding.specs.Layout.{frame_bits, frame_at, Carries}
 use Rattle.carding.specs.Search.{sought_at, agrees_at, position_from, found_from}
-use Rattle.carding.specs.Answer.{longest_stream, margins_known, margins_told, searched, carded_in, carded_of, handed_for, handed_of, carded_number, bits_of_frame}
-use Rattle.carding.specs.declared.carded.Carded.{Carded}
-use Rattle.carding.specs.declared.carded.Carded.TheVariants.{Found, Refused}
+use Rattle.carding.specs.Answer.{longest_stream, margins_known, margins_told, searched, carded_in, carded_of, handed_for, handed_of, carded_number, bits_of_frame, Carded, found_at}
 use Rattle.table.specs.declared.reason.Reason.TheVariants.{NoTable, UnknownMargin, NoParameters, LongStream, NoFrame, FewWords}
 use Rattle.table.specs.Reasons.{reason_number}
 use Rattle.table.proofs.Reasoning.{reason_some, one_reason}
@@ -42,7 +37,7 @@ use Rattle.demands.specs.Refusing.{first_broken, card_rules, bits_rules, has_par
 use Rattle.demands.specs.Demands.{FrameHanded}
 use Rattle.demands.proofs.Numbers.{found_any}
 use Rattle.demands.proofs.Unbroken.{holds_first}
-use Rattle.std.specs.Prelude.{Result, Ok, Err}
+use Rattle.std.specs.Prelude.{Result, Ok, Err, Some, None}
 
 -- ---- the tests of the rules are those of our definitions
 
@@ -81,7 +76,7 @@ card_number t y from w =
     (some_none (parameters (view t))) (found_some (view t) y from)
     ∙ tells (accepts t) refl
   where
-    go : (a n m l f e : Bool) → carded_number (cond a (cond n (Refused NoParameters) (cond m (cond l (cond f (cond e (Found (position_from (view t) y from) (frame_words (view t))) (Refused FewWords)) (Refused NoFrame)) (Refused LongStream)) (Refused UnknownMargin))) (Refused NoTable)) ≡ cond a (cond (not n) (cond m (cond l (cond f (cond e 0 28) 25) 38) 26) 27) 18
+    go : (a n m l f e : Bool) → carded_number (cond a (cond n (Err NoParameters) (cond m (cond l (cond f (cond e (found_at (position_from (view t) y from) (frame_words (view t))) (Err FewWords)) (Err NoFrame)) (Err LongStream)) (Err UnknownMargin))) (Err NoTable)) ≡ cond a (cond (not n) (cond m (cond l (cond f (cond e 0 28) 25) 38) 26) 27) 18
     go false n m l f e = refl
     go true true m l f e = refl
     go true false false l f e = refl
@@ -121,8 +116,8 @@ unfolding handed_of handed_for carded_number
 card_unchanged t y from w n = go (carded_of t y from w) n
   where
     go : (r : Carded) → (carded_number r ≡ 0 → ⊥) → handed_for (view t) y w r ≡ w
-    go (Found p k) m = absurd (m refl)
-    go (Refused r) m = refl
+    go (Ok f) m = absurd (m refl)
+    go (Err r) m = refl
 
 -- ---- where none is broken
 
@@ -160,11 +155,11 @@ meets_words : (c : Content) (f : List ℕ) → meets c f ≡ true → words_ok c
 unfolding meets
 meets_words c f m = rule _ m 1
 
-number_passes : (x : Compared) → compared_number x ≡ 0 → x ≡ Passes
+number_passes : (x : Compared) → compared_number x ≡ 0 → x ≡ Ok None
 unfolding compared_number
-number_passes Passes e = refl
-number_passes (compared.Refused r) e = absurd (reason_some r e)
-number_passes (compared.Differs s) e = absurd (omega arith)
+number_passes (Ok None) e = refl
+number_passes (Err r) e = absurd (reason_some r e)
+number_passes (Ok (Some s)) e = absurd (omega arith)
 
 module _ (t y : List ℕ) (from : ℕ) (w : List ℕ) (h : Findable t y from w) where
   abbrev c : Content
@@ -173,7 +168,7 @@ module _ (t y : List ℕ) (from : ℕ) (w : List ℕ) (h : Findable t y from w) 
   abbrev at : ℕ
   at = position_from c y from
 
-  found_is : carded_of t y from w ≡ Found at (frame_words c)
+  found_is : carded_of t y from w ≡ found_at at (frame_words c)
   unfolding carded_of carded_in searched
   found_is = rw (h.accepted, h.some, h.told, h.short, h.found, h.room)
 
@@ -201,7 +196,7 @@ module _ (t y : List ℕ) (from : ℕ) (w : List ℕ) (h : Findable t y from w) 
   pub front_meets : meets c (take (frame_words c) (handed_of t y from w)) ≡ true
   front_meets = ap (meets c) front ∙ frame_meets c y at
 
-  pub front_passes : compared_of t (take (frame_words c) (handed_of t y from w)) ≡ Passes
+  pub front_passes : compared_of t (take (frame_words c) (handed_of t y from w)) ≡ Ok None
   unfolding fit_of fitted_compared agrees_at
   front_passes =
       let m = frame_meets c y at in
@@ -215,12 +210,12 @@ module _ (t y : List ℕ) (from : ℕ) (w : List ℕ) (h : Findable t y from w) 
   handed_alike {r} {o} f =
       let p : f.position ≡ at = first_is c y from f.position f.first in
       let words : take (frame_words c) o ≡ frame_at c y at = sym (carried c _ f.words) ∙ ap (frame_at c y) p in (
-        f.is ∙ ap (λ (k : ℕ). Found k (frame_words c)) p ∙ sym found_is,
+        f.is ∙ ap (λ (k : ℕ). found_at k (frame_words c)) p ∙ sym found_is,
         sym (take-append-drop (frame_words c) o) ∙ ap₂ ◌++◌ words f.beyond ∙ sym handed_is,
       )
 
 -- what is found is findable
-pub found_findable : (t y : List ℕ) (from : ℕ) (w : List ℕ) (p n : ℕ) → carded_of t y from w ≡ Found p n → Findable t y from w
+pub found_findable : (t y : List ℕ) (from : ℕ) (w : List ℕ) (p n : ℕ) → carded_of t y from w ≡ found_at p n → Findable t y from w
 unfolding carded_number
 found_findable t y from w p n e = findable t y from w (sym (card_number t y from w) ∙ ap carded_number e)
 
@@ -228,6 +223,6 @@ found_findable t y from w p n e = findable t y from w (sym (card_number t y from
 
 pub same_carded : (x y : Carded) → carded_number x ≡ carded_number y → 0 < carded_number y → x ≡ y
 unfolding carded_number
-same_carded (Found p n) y e h = absurd (omega arith)
-same_carded (Refused q) (Found p n) e h = absurd (omega arith)
-same_carded (Refused q) (Refused r) e h = ap Refused (one_reason q r e)
+same_carded (Ok f) y e h = absurd (omega arith)
+same_carded (Err q) (Ok f) e h = absurd (omega arith)
+same_carded (Err q) (Err r) e h = ap Err (one_reason q r e)

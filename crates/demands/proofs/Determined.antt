@@ -3,13 +3,9 @@ use mathlib.Core.Path.{◌≡◌, sym, ◌∙◌}
 use mathlib.Core.List.{List}
 use Prim.Native.Nat.{ℕ}
 use denote.Ref.{Bor}
-use Rattle.maker.specs.declared.make.Made.{Made}
-use Rattle.framing.specs.declared.read.Reading.{Reading}
-use Rattle.framing.specs.declared.compare.Compared.{Compared}
 use Rattle.framing.specs.declared.page.Request.{Request}
 use Rattle.framing.specs.declared.page.Outcome.{Outcome}
 use Rattle.framing.specs.declared.page.Paged.{Paged}
-use Rattle.carding.specs.declared.carded.Carded.{Carded}
 use Rattle.bench.specs.Promises.{Makes, MadeNumbered, Checks, CheckNumbered, Names, NameNumbered, NamesBy, NameByNumbered, Reads, ReadNumbered, Places, PlaceNumbered, Compares, CompareNumbered, Pages, Cards, CardNumbered, FrameBits}
 use Rattle.bench.specs.Texts.{Fills, WordsFill}
 use Rattle.ffi.specs.Promises.{MakesOut, ChecksOut, NamesOut, NamesByOut, ReadsOut, PlacesOut, ComparesOut, PagesOut, CardsOut, FrameBitsOut}
@@ -20,6 +16,10 @@ use Rattle.ffi.specs.declared.cards.OrbCarded.{OrbCarded}
 use Rattle.std.specs.Prelude.{Result, Ok, Err}
 use Rattle.framing.specs.Placing.{Placed}
 use Rattle.table.specs.Answers.{Checked}
+use Rattle.framing.specs.Comparing.{Compared}
+use Rattle.framing.specs.Reading.{Read}
+use Rattle.maker.specs.Made.{Made}
+use Rattle.carding.specs.Answer.{Carded}
 
 both : {A : Type 0} {x y z : A} → x ≡ z → y ≡ z → x ≡ y
 both p q = p ∙ sym q
@@ -56,10 +56,10 @@ name_number_one t p i j h k = both h k
 pub name_by_number_one : (t m : List ℕ) (i j : ℕ) → NameByNumbered t m i → NameByNumbered t m j → i ≡ j
 name_by_number_one t m i j h k = both h k
 
-pub reads_one : (t f : List ℕ) (p s : ℕ) (r q : Reading) → Reads t f p s r → Reads t f p s q → r ≡ q
+pub reads_one : (t f : List ℕ) (p s : ℕ) (r q : Read) → Reads t f p s r → Reads t f p s q → r ≡ q
 reads_one t f p s r q h k = both h k
 
-pub read_number_one : (r : Reading) (i j : ℕ) → ReadNumbered r i → ReadNumbered r j → i ≡ j
+pub read_number_one : (r : Read) (i j : ℕ) → ReadNumbered r i → ReadNumbered r j → i ≡ j
 read_number_one r i j h k = both h k
 
 pub places_one : (t f a b : List ℕ) (p s v : ℕ) (r q : Placed) → Places t f p s v r a → Places t f p s v q b → (r ≡ q) × (a ≡ b)

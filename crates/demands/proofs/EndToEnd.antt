@@ -9,14 +9,14 @@ use Rattle.model.specs.Frame.{meets}
 use Rattle.model.specs.View.{view}
 use Rattle.grammar.specs.Says.{Says}
 use Rattle.grammar.proofs.Exactly.{one_saying}
-use Rattle.maker.specs.declared.make.Made.TheVariants as made
-use Rattle.framing.specs.declared.read.Reading.{Reading}
 use Rattle.demands.specs.Calls.{Calls}
 use Rattle.demands.specs.Demands.{HasSample, answer_in, Demands}
 use Rattle.std.specs.Prelude.{Result, Ok, Err}
+use Rattle.framing.specs.Reading.{Read}
+use Rattle.maker.specs.Made.{unmade}
 
 -- what a read of sample s of parameter p must answer, by what the sheet says
-abbrev pub read_by : Content → List ℕ → ℕ → ℕ → Reading
+abbrev pub read_by : Content → List ℕ → ℕ → ℕ → Read
 read_by c f p s = answer_in c f p s
 
 -- by a table made of a sheet that says c
@@ -34,7 +34,7 @@ pub record EndToEnd (B : Calls) (s l : List ℕ) (n : ℕ) : Type 0 where
   pub said : ReadAsSaid B s l n content
 
 module _ (B : Calls) (D : Demands B) where
-  pub read_as_said : (s l : List ℕ) (n : ℕ) (c : Content) → Says s c → B.make s l ≡ made.Length n → ReadAsSaid B s l n c
+  pub read_as_said : (s l : List ℕ) (n : ℕ) (c : Content) → Says s c → B.make s l ≡ Ok n → ReadAsSaid B s l n c
   read_as_said s l n c e h =
       let v : view (take n (B.made s l)) ≡ c = D.two.sheet.says s l n c h e in
       let k = D.three.passes s l n h in
@@ -43,7 +43,7 @@ module _ (B : Calls) (D : Demands B) where
         reads = λ f p q m a. subst (λ (d : Content). B.read (take n (B.made s l)) f p q ≡ read_by d f p q) v (D.two.joined (take n (B.made s l)) f p q (record { passes = k; fits = ap (λ (d : Content). meets d f) v ∙ m }) (subst (λ (d : Content). HasSample d p q) (sym v) a));
       }
 
-  pub end_to_end : (s l : List ℕ) (n : ℕ) → B.make s l ≡ made.Length n → EndToEnd B s l n
+  pub end_to_end : (s l : List ℕ) (n : ℕ) → B.make s l ≡ Ok n → EndToEnd B s l n
   end_to_end s l n h =
       let w = D.two.sheet.only s l n h in
       record {

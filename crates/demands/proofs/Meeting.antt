@@ -28,8 +28,7 @@ use Rattle.gather.specs.Ruling.{Ruling, Accepted, Refused, judge_of}
 use Rattle.gather.proofs.AcceptedLawful.{accepted_lawful}
 use Rattle.grammar.proofs.Accepted.{accepted_says}
 use Rattle.grammar.proofs.Accepts.{says_accepted}
-use Rattle.maker.specs.Made.{made_of, left_of}
-use Rattle.maker.specs.declared.make.Made.TheVariants as made
+use Rattle.maker.specs.Made.{made_of, left_of, unmade}
 use Rattle.maker.proofs.MadeTables.{TooSmall as SmallTable, made_table, left_alone}
 use Rattle.table.specs.Answers.{check_of, check_number, asked_number, asked_mnemonic}
 use Rattle.framing.specs.Wanted.{wanted_of}
@@ -45,8 +44,7 @@ use Rattle.framing.proofs.Agree.{Lists, answers_bits, bits_answers}
 use Rattle.framing.proofs.Answered.{answered, raw_below}
 use Rattle.framing.proofs.Pages.{page_all, each_result, later_result, as_many_results}
 use Rattle.framing.proofs.PlaceRead.{placing as placing-done, placed_other as other-kept, placed_read}
-use Rattle.carding.specs.Answer.{carded_number}
-use Rattle.carding.specs.declared.carded.Carded.TheVariants.{Found}
+use Rattle.carding.specs.Answer.{carded_number, found_at}
 use Rattle.carding.proofs.Next.{found_stands}
 use Rattle.demands.specs.Calls.{Calls, Kept}
 use Rattle.demands.specs.Refusing.{sample_of, components_of, wholes_of, first_broken, card_rules, page_rules}
@@ -121,26 +119,26 @@ module _ (B : Calls) (K : Kept B) where
   making : (s l : List ℕ) (r : Ruling) → judge_of s ≡ r → B.make s l ≡ made_of r (length l)
   making s l r e = (K.makes s l).0 ∙ ap (λ (v : Ruling). made_of v (length l)) e
 
-  taken_exactly : (s l : List ℕ) (c : Content) → judge_of s ≡ Accepted c → length (write newest c) ≤ length l → B.make s l ≡ made.Length (length (write newest c))
+  taken_exactly : (s l : List ℕ) (c : Content) → judge_of s ≡ Accepted c → length (write newest c) ≤ length l → B.make s l ≡ Ok (length (write newest c))
   taken_exactly s l c e h = making s l (Accepted c) e ∙ rw (le-leb (length (write newest c)) (length l) h)
 
-  small_exactly : (s l : List ℕ) (c : Content) → judge_of s ≡ Accepted c → length l < length (write newest c) → B.make s l ≡ made.Refused TableTooSmall 0
+  small_exactly : (s l : List ℕ) (c : Content) → judge_of s ≡ Accepted c → length l < length (write newest c) → B.make s l ≡ unmade TableTooSmall 0
   small_exactly s l c e h = making s l (Accepted c) e ∙ rw (lt-leb (length (write newest c)) (length l) h)
 
-  says_so : (s l : List ℕ) (n : ℕ) (c : Content) → B.make s l ≡ made.Length n → judge_of s ≡ Accepted c → view (take n (B.made s l)) ≡ c
+  says_so : (s l : List ℕ) (n : ℕ) (c : Content) → B.make s l ≡ Ok n → judge_of s ≡ Accepted c → view (take n (B.made s l)) ≡ c
   says_so s l n c h e =
       let t = made_table s l n (sym (K.makes s l).0 ∙ h) in
       ap (λ (x : List ℕ). view (take n x)) (K.makes s l).1 ∙ (t.says ∙ ap (said c) (sym t.accepted ∙ e))
 
   module _ (s l : List ℕ) (q : Refusal) (k : ℕ) where
-    why_refused : B.make s l ≡ made.Refused q k → SheetRefused s l q k
+    why_refused : B.make s l ≡ unmade q k → SheetRefused s l q k
     why_refused e = go (left_alone s l q k (sym (K.makes s l).0 ∙ e)).why
       where
         go : (judge_of s ≡ Refused q k) ⊎ SmallTable s l q k → SheetRefused s l q k
         go (inl h) = inl h
         go (inr t) = inr (record { content = t.content; says = accepted_says s t.content t.accepted; short = t.small; refusal = t.refusal; unlined = t.unlined })
 
-    refused_so : SheetRefused s l q k → B.make s l ≡ made.Refused q k
+    refused_so : SheetRefused s l q k → B.make s l ≡ unmade q k
     refused_so (inl e) = making s l (Refused q k) e
     refused_so (inr t) = small_exactly s l t.content (says_accepted s t.content t.says) t.short ∙ rw (t.refusal, t.unlined)
 
@@ -191,7 +189,7 @@ module _ (B : Calls) (K : Kept B) where
           let k = lists_of t p s l in
           (K.places t f p s v).0 ∙ placing-done t p s passed k.parameter_least k.parameter_most k.sample_least k.sample_most z f m v d
 
-      read_back : B.read t (B.placed t f p s v) p s ≡ answer_for (view t) p s v
+      read_back : B.read t (B.placed t f p s v) p s ≡ Ok (answer_for (view t) p s v)
       unfolding width_is width_of components_of meaning
       read_back =
           let k = lists_of t p s l in
@@ -208,13 +206,13 @@ module _ (B : Calls) (K : Kept B) where
 
   -- ---- 2
 
-  left_bytes : (s l : List ℕ) (n : ℕ) → B.make s l ≡ made.Length n → AreBytes (take n (B.made s l))
+  left_bytes : (s l : List ℕ) (n : ℕ) → B.make s l ≡ Ok n → AreBytes (take n (B.made s l))
   left_bytes s l n h =
       let t = made_table s l n (sym (K.makes s l).0 ∙ h) in
       let e : take n (B.made s l) ≡ write newest t.content = ap (take n) (K.makes s l).1 ∙ t.table in
       subst (λ (x : List ℕ). AreBytes x) (sym e) (write_bytes sheet_limits newest t.content (accepted_lawful s t.content t.accepted))
 
-  left_form : (s l : List ℕ) (n : ℕ) → B.make s l ≡ made.Length n → form_in (take n (B.made s l)) ≡ newest
+  left_form : (s l : List ℕ) (n : ℕ) → B.make s l ≡ Ok n → form_in (take n (B.made s l)) ≡ newest
   left_form s l n h =
       let t = made_table s l n (sym (K.makes s l).0 ∙ h) in
       ap (λ (x : List ℕ). form_in (take n x)) (K.makes s l).1 ∙ ap form_in t.table ∙ form_new t.content (accepted_lawful s t.content t.accepted)
@@ -285,7 +283,7 @@ module _ (B : Calls) (K : Kept B) where
           each = λ p s l. K.reads t f p s ∙ ((bits_answers t f g passing h.fits n.fits (record { each = λ p' s' k. a.each p' s' (listed_of t p' s' k) })).each p s (lists_of t p s l) ∙ sym (K.reads t g p s));
         }
 
-  handed_fits : (t y : List ℕ) (from : ℕ) (w : List ℕ) (p n : ℕ) → B.card_from t y from w ≡ Found p n → FrameFits B t (take n (B.handed_from t y from w))
+  handed_fits : (t y : List ℕ) (from : ℕ) (w : List ℕ) (p n : ℕ) → B.card_from t y from w ≡ found_at p n → FrameFits B t (take n (B.handed_from t y from w))
   handed_fits t y from w p n e =
       let q = sym (K.cards_from t y from w).0 ∙ e in
       let h = found_findable t y from w p n q in

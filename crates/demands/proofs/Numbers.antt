@@ -21,14 +21,12 @@ use Rattle.table.specs.Answers.{check_of, check_number, numbered_of, mnemonic_is
 use Rattle.framing.specs.Fitting.{fit_of}
 use Rattle.framing.specs.Wanted.{has_parameter, has_sample, fitted, wanted_by, wanted_of}
 use Rattle.framing.specs.Reading.{raw_of, width_is, value_of, copies_agree, read_for, read_of, read_number, sample_read}
-use Rattle.framing.specs.declared.read.Reading.TheVariants.{Sample, OverlapDiffers}
 use Rattle.framing.specs.Placing.{laps_in, place_for, place_of, place_number}
 use Rattle.framing.specs.Comparing.{differs_in, compared_in, fitted_compared, compared_of, compared_number}
 use Rattle.table.specs.Reasons.{reason_number}
 use Rattle.table.specs.declared.reason.Reason.TheVariants.{Overlapped, NoTable, OtherCount, HighWord, NoParameter, NoSample}
-use Rattle.framing.specs.declared.compare.Compared.TheVariants as compared
 use Rattle.demands.specs.Refusing.{sample_of, components_of, as_many_words, first_broken, check_rules, read_rules, place_rules, compare_rules, name_rules, mnemonic_rules}
-use Rattle.std.specs.Prelude.{Result, Ok, Err}
+use Rattle.std.specs.Prelude.{Result, Ok, Err, Some, None}
 use Rattle.framing.specs.Wanted.{Wanted}
 
 -- the first number below n of which p holds is below n exactly where there is one
@@ -74,15 +72,11 @@ unfolding wanted_of wanted_by fit_of first_broken
 wanted_number_lem t f p s = number_by (accepts t) (has_parameter (view t) p) (has_sample (view t) p s) (as_many_words (view t) f) (words_ok (view t) f) (p - 1) (s - 1)
 
 pub read_number_lem : (t f : List ℕ) (p s : ℕ) → read_number (read_of t f p s) ≡ first_broken (read_rules t f p s)
-unfolding read_of read_for sample_read read_number
+unfolding read_of read_for read_number
 read_number_lem t f p s = go (wanted_of t f p s) ∙ wanted_number_lem t f p s
   where
-    either : (x w : ℕ) (v : ℤ) (a : Bool) → read_number (cond a (Sample x w v) (OverlapDiffers x w v)) ≡ 0
-    either x w v true = refl
-    either x w v false = refl
-
     go : (w : Wanted) → read_number (read_for (view t) f w) ≡ wanted_number w
-    go (Ok (i, j)) = either (raw_of (view t) f i j) (width_is (view t) i j) (value_of (view t) f i j) (copies_agree (view t) f i j)
+    go (Ok (i, j)) = refl
     go (Err r) = refl
 
 pub place_number_lem : (t f : List ℕ) (p s v : ℕ) → place_number (place_of t f p s v) ≡ first_broken (place_rules t f p s v)
@@ -114,7 +108,7 @@ compare_number t f =
     at : ℕ
     at = find (subframes (view t)) (λ s. differs_in (view t) f (s + 1))
 
-    go : (a e g d : Bool) → compared_number (cond a (fitted_compared (cond e (cond g (Ok tt) (Err HighWord)) (Err OtherCount)) (cond d (compared.Differs (at + 1)) compared.Passes)) (compared.Refused NoTable)) ≡ cond a (cond e (cond g (cond (not d) 0 24) 20) 19) 18
+    go : (a e g d : Bool) → compared_number (cond a (fitted_compared (cond e (cond g (Ok tt) (Err HighWord)) (Err OtherCount)) (cond d (Ok (Some (at + 1))) (Ok None))) (Err NoTable)) ≡ cond a (cond e (cond g (cond (not d) 0 24) 20) 19) 18
     go false e g d = refl
     go true false g d = refl
     go true true false d = refl

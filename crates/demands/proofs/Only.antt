@@ -29,8 +29,7 @@ use Rattle.model.proofs.Statements.{accepted_writing}
 use Rattle.gather.specs.Ruling.{Ruling, Accepted, Refused, judge_of}
 use Rattle.grammar.specs.Says.{Says}
 use Rattle.grammar.proofs.Accepted.{accepted_says}
-use Rattle.maker.specs.Made.{made_of, left_of}
-use Rattle.maker.specs.declared.make.Made.TheVariants as made
+use Rattle.maker.specs.Made.{made_of, left_of, unmade}
 use Rattle.bench.specs.Promises.{Makes, Pages, Names, NamesBy, Cards, FrameBits}
 use Rattle.table.specs.Answers.{NameOf, check_of, asked_number, asked_mnemonic, asked_refusal, name_answered, place_answered}
 use Rattle.framing.specs.Reading.{read_of, read_number}
@@ -123,7 +122,7 @@ module _ (B : Calls) (D : Demands B) where
       own = ours_meets.two.placed t f p s v (fitting_ours t f x.accepted x.fits) x.there z d
 
       -- a frame that is read back is readable, and joins to the value
-      joins : (g : List ℕ) → read_of t g p s ≡ answer_for (view t) p s v → (length g ≡ length f) × (join g (components_of (view t) p s) ≡ v)
+      joins : (g : List ℕ) → read_of t g p s ≡ Ok (answer_for (view t) p s v) → (length g ≡ length f) × (join g (components_of (view t) p s) ≡ v)
       joins g e =
           let r = readable t g p s (sym (read_number_lem t g p s) ∙ (ap read_number e ∙ (unfold read_number in refl))) in
           (long t g r.fits ∙ sym (long t f x.fits), sym (answer_raw (view t) g p s) ∙ ap raw_in (sym (ours_meets.two.joined t g p s (fitting_ours t g r.accepted r.fits) r.there) ∙ e))
@@ -237,7 +236,7 @@ module _ (B : Calls) (D : Demands B) where
             sym (take-append-drop n (B.made s l)) ∙ (rw (t, D.two.sheet.later s l n e, le-leb n (length l) h)),
           )
         where
-          passing : B.make s l ≡ made.Length (length (write newest c)) → accepts (take (length (write newest c)) (B.made s l)) ≡ true
+          passing : B.make s l ≡ Ok (length (write newest c)) → accepts (take (length (write newest c)) (B.made s l)) ≡ true
           passing e = accepts_of _ (sym (checks _) ∙ D.three.passes s l (length (write newest c)) e)
 
       short : length l < length (write newest c) → AsPromised (Accepted c)

@@ -100,15 +100,15 @@ minus_meets : meets lapped_wall minus ≡ true
 unfolding every sum before frame_words words_ok meets word_counts
 minus_meets = refl
 
-minus_answer : answer_in lapped_wall minus 2 1 ≡ Sample 262133 18 (negsuc 10)
+minus_answer : answer_in lapped_wall minus 2 1 ≡ Ok (Sample 262133 18 (negsuc 10))
 unfolding bit_at field signed part_of join width sum before position word_counts whole piece pieces place_in holds_at holds components_of meaning
 minus_answer = refl
 
-agreeing_answer : answer_in lapped_wall agreeing 2 1 ≡ Sample 2048 18 (pos 2048)
+agreeing_answer : answer_in lapped_wall agreeing 2 1 ≡ Ok (Sample 2048 18 (pos 2048))
 unfolding bit_at field signed part_of join width sum before position word_counts whole piece pieces place_in holds_at holds components_of meaning
 agreeing_answer = refl
 
-rolled_answer : answer_in lapped_wall rolled 2 1 ≡ OverlapDiffers 2048 18 (pos 2048)
+rolled_answer : answer_in lapped_wall rolled 2 1 ≡ Ok (OverlapDiffers 2048 18 (pos 2048))
 unfolding bit_at field signed part_of join width sum before position word_counts whole piece pieces place_in holds_at holds components_of meaning
 rolled_answer = refl
 
@@ -157,19 +157,19 @@ module _ (B : Calls) (D : Demands B) where
 
   -- ---- what is read
 
-  pub reads_agreeing : B.read lapped_table agreeing 2 1 ≡ Sample 2048 18 (pos 2048)
+  pub reads_agreeing : B.read lapped_table agreeing 2 1 ≡ Ok (Sample 2048 18 (pos 2048))
   reads_agreeing = reads agreeing agreeing_meets ∙ agreeing_answer
 
-  pub reads_rolled : B.read lapped_table rolled 2 1 ≡ OverlapDiffers 2048 18 (pos 2048)
+  pub reads_rolled : B.read lapped_table rolled 2 1 ≡ Ok (OverlapDiffers 2048 18 (pos 2048))
   reads_rolled = reads rolled rolled_meets ∙ rolled_answer
 
   -- minus eleven: 4085 is 12 bits of it, and 127 the 7 above, one of them in both
-  pub reads_minus : B.read lapped_table minus 2 1 ≡ Sample 262133 18 (negsuc 10)
+  pub reads_minus : B.read lapped_table minus 2 1 ≡ Ok (Sample 262133 18 (negsuc 10))
   reads_minus = reads minus minus_meets ∙ minus_answer
 
   -- ---- a bench that never tells copies that differ
 
-  pub copies_told : ((t f : List ℕ) (p s : ℕ) (r w : ℕ) (v : ℤ) → B.read t f p s ≡ OverlapDiffers r w v → ⊥) → ⊥
+  pub copies_told : ((t f : List ℕ) (p s : ℕ) (r w : ℕ) (v : ℤ) → B.read t f p s ≡ Ok (OverlapDiffers r w v) → ⊥) → ⊥
   copies_told u = u lapped_table rolled 2 1 2048 18 (pos 2048) reads_rolled
 
   -- one that joins all bits side by side: the overlap ignored

@@ -24,13 +24,12 @@ use Rattle.table.specs.Answers.{NameOf, numbered_of, mnemonic_is, called, asked_
 use Rattle.table.specs.declared.reason.Reason.TheVariants.{NoTable, NoParameter}
 use Rattle.table.proofs.Reasoning.{reason_some}
 use Rattle.table.proofs.Accepting.{accepts_lawful}
-use Rattle.framing.specs.Comparing.{differs_in, compared_in, fitted_compared, compared_of}
+use Rattle.framing.specs.Comparing.{Compared, differs_in, compared_in, fitted_compared, compared_of}
 use Rattle.framing.specs.Fitting.{fit_of}
-use Rattle.framing.specs.declared.compare.Compared.TheVariants as compared
 use Rattle.demands.specs.Refusing.{first_broken, name_rules, mnemonic_rules}
 use Rattle.demands.specs.Demands.{EmptyPart, NamePart, FirstDiffering}
 use Rattle.demands.proofs.Numbers.{name_number_lem, mnemonic_number}
-use Rattle.std.specs.Prelude.{Result, Ok, Err}
+use Rattle.std.specs.Prelude.{Result, Ok, Err, Some, None}
 use Rattle.framing.specs.Fitting.{Fit}
 use Rattle.table.specs.Answers.{Asked}
 
@@ -149,15 +148,15 @@ module _ (c : Content) (f : List ℕ) where
         lower = λ k g h. before k g h l;
       }
 
-subframe_same : (s k : ℕ) → compared.Differs s ≡ compared.Differs k → s ≡ k
+subframe_same : (s k : ℕ) → ◌≡◌ {A = Compared} (Ok (Some s)) (Ok (Some k)) → s ≡ k
 subframe_same s k e = cc
 
-pub first_differing : (t f : List ℕ) (s : ℕ) → compared_of t f ≡ compared.Differs s → FirstDiffering (view t) f s
+pub first_differing : (t f : List ℕ) (s : ℕ) → compared_of t f ≡ Ok (Some s) → FirstDiffering (view t) f s
 unfolding compared_of compared_in fitted_compared
 first_differing t f s e = go (accepts t) (fit_of (view t) f) (ltb (at (view t) f) (subframes (view t))) refl e
   where
     go : (a : Bool) (d : Fit) (b : Bool) → ltb (at (view t) f) (subframes (view t)) ≡ b
-        → cond a (fitted_compared d (cond b (compared.Differs (at (view t) f + 1)) compared.Passes)) (compared.Refused NoTable) ≡ compared.Differs s → FirstDiffering (view t) f s
+        → cond a (fitted_compared d (cond b (Ok (Some (at (view t) f + 1))) (Ok None))) (Err NoTable) ≡ Ok (Some s) → FirstDiffering (view t) f s
     go true (Ok _) true h q = rw (sym (subframe_same (at (view t) f + 1) s q)) (found_first (view t) f (ltb-true _ _ h))
     go true (Ok _) false h q = let z : ◌≡◌ {A = ℕ} 0 1 = cc in absurd (omega arith)
     go true (Err r) b h q = let z : ◌≡◌ {A = ℕ} 0 1 = cc in absurd (omega arith)

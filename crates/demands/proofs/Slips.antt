@@ -21,7 +21,6 @@ use Rattle.model.specs.Samples.{word_counts, piece, pieces}
 use Rattle.model.specs.View.{view}
 use Rattle.model.specs.Wall.{wall}
 use Rattle.table.specs.Answers.{check_number}
-use Rattle.framing.specs.declared.read.Reading.{Reading}
 use Rattle.demands.specs.Calls.{Calls}
 use Rattle.demands.specs.Refusing.{components_of}
 use Rattle.demands.specs.Demands.{HasSample, Fitting, Demands}
@@ -29,9 +28,10 @@ use Rattle.demands.proofs.Wall.{words, fuller, words_meet, fuller_meets, sync_li
 use Rattle.demands.proofs.Told.{raw_in, value_in}
 use Rattle.demands.proofs.Useless.{eighteen}
 use Rattle.std.specs.Prelude.{Result, Ok, Err}
+use Rattle.framing.specs.Reading.{Read}
 
 -- what a bench reads, of every sample of every frame that fits a table it accepts
-abbrev Reads : Calls → (Content → List ℕ → ℕ → ℕ → Reading → Type 0) → Type 0
+abbrev Reads : Calls → (Content → List ℕ → ℕ → ℕ → Read → Type 0) → Type 0
 Reads B P = (t f : List ℕ) (p s : ℕ) → Fitting B t f → HasSample (view t) p s → P (view t) f p s (B.read t f p s)
 
 -- ---- the components the wrong way round, and a word further on

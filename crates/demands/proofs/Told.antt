@@ -11,45 +11,40 @@ use Rattle.model.specs.Content.{Content}
 use Rattle.table.specs.Answers.{check_number}
 use Rattle.table.specs.Reasons.{reason_number}
 use Rattle.table.proofs.Reasoning.{reason_some, reason_not_differing, one_reason}
-use Rattle.framing.specs.Reading.{read_number}
+use Rattle.framing.specs.Reading.{Read, read_number}
 use Rattle.framing.specs.Placing.{place_number}
-use Rattle.framing.specs.Comparing.{compared_number}
-use Rattle.framing.specs.declared.read.Reading.{Reading}
+use Rattle.framing.specs.Comparing.{Compared, compared_number}
 use Rattle.framing.specs.declared.read.Reading.TheVariants as reading
-use Rattle.framing.specs.declared.compare.Compared.{Compared}
-use Rattle.framing.specs.declared.compare.Compared.TheVariants as compared
 use Rattle.demands.specs.Refusing.{components_of}
 use Rattle.demands.specs.Demands.{answer_for, differs_for, agree_in, answer_in, FirstDiffering}
-use Rattle.std.specs.Prelude.{Result, Ok, Err}
+use Rattle.std.specs.Prelude.{Result, Ok, Err, Some, None}
 use Rattle.framing.specs.Placing.{Placed}
 use Rattle.table.specs.Answers.{Checked}
 
 -- the raw value and the value that are answered, whether the copies agree or not
-abbrev pub raw_in : Reading → ℕ
-raw_in (reading.Sample r w v) = r
-raw_in (reading.OverlapDiffers r w v) = r
-raw_in (reading.Refused q) = 0
+abbrev pub raw_in : Read → ℕ
+raw_in (Ok (reading.Sample r w v)) = r
+raw_in (Ok (reading.OverlapDiffers r w v)) = r
+raw_in (Err q) = 0
 
-abbrev pub value_in : Reading → ℤ
-value_in (reading.Sample r w v) = v
-value_in (reading.OverlapDiffers r w v) = v
-value_in (reading.Refused q) = pos 0
+abbrev pub value_in : Read → ℤ
+value_in (Ok (reading.Sample r w v)) = v
+value_in (Ok (reading.OverlapDiffers r w v)) = v
+value_in (Err q) = pos 0
 
 pub answer_raw : (c : Content) (f : List ℕ) (p s : ℕ) → raw_in (answer_in c f p s) ≡ join f (components_of c p s)
 answer_raw c f p s = go (agree_in c f p s)
   where
-    go : (t : Bool) → raw_in (cond t (answer_for c p s (join f (components_of c p s))) (differs_for c p s (join f (components_of c p s)))) ≡ join f (components_of c p s)
+    go : (t : Bool) → raw_in (Ok (cond t (answer_for c p s (join f (components_of c p s))) (differs_for c p s (join f (components_of c p s))))) ≡ join f (components_of c p s)
     go true = refl
     go false = refl
 
 -- two answers of one number that is not 0 are equal
-pub same_reading : (x y : Reading) → read_number x ≡ read_number y → 0 < read_number y → x ≡ y
+pub same_reading : (x y : Read) → read_number x ≡ read_number y → 0 < read_number y → x ≡ y
 unfolding read_number
-same_reading (reading.Sample a w v) y e h = absurd (omega arith)
-same_reading (reading.OverlapDiffers a w v) y e h = absurd (omega arith)
-same_reading (reading.Refused q) (reading.Sample a w v) e h = absurd (omega arith)
-same_reading (reading.Refused q) (reading.OverlapDiffers a w v) e h = absurd (omega arith)
-same_reading (reading.Refused q) (reading.Refused r) e h = ap reading.Refused (one_reason q r e)
+same_reading (Ok _) y e h = absurd (omega arith)
+same_reading (Err q) (Ok _) e h = absurd (omega arith)
+same_reading (Err q) (Err r) e h = ap Err (one_reason q r e)
 
 pub same_placing : (x y : Placed) → place_number x ≡ place_number y → 0 < place_number y → x ≡ y
 unfolding place_number
@@ -79,14 +74,14 @@ one_first c f s k x y = go (dec_lt s k) (dec_lt k s)
 
 -- and comparisons, where 24 tells the first differing subframe
 pub same_compared : (c : Content) (f : List ℕ) (x y : Compared) → compared_number x ≡ compared_number y
-    → ((s : ℕ) → x ≡ compared.Differs s → FirstDiffering c f s) → ((s : ℕ) → y ≡ compared.Differs s → FirstDiffering c f s) → x ≡ y
+    → ((s : ℕ) → x ≡ Ok (Some s) → FirstDiffering c f s) → ((s : ℕ) → y ≡ Ok (Some s) → FirstDiffering c f s) → x ≡ y
 unfolding compared_number
-same_compared c f compared.Passes compared.Passes e h k = refl
-same_compared c f compared.Passes (compared.Differs t) e h k = absurd (omega arith)
-same_compared c f compared.Passes (compared.Refused r) e h k = absurd (reason_some r (sym e))
-same_compared c f (compared.Differs s) compared.Passes e h k = absurd (omega arith)
-same_compared c f (compared.Differs s) (compared.Differs t) e h k = ap compared.Differs (one_first c f s t (h s refl) (k t refl))
-same_compared c f (compared.Differs s) (compared.Refused r) e h k = absurd (reason_not_differing r (sym e))
-same_compared c f (compared.Refused q) compared.Passes e h k = absurd (reason_some q e)
-same_compared c f (compared.Refused q) (compared.Differs t) e h k = absurd (reason_not_differing q e)
-same_compared c f (compared.Refused q) (compared.Refused r) e h k = ap compared.Refused (one_reason q r e)
+same_compared c f (Ok None) (Ok None) e h k = refl
+same_compared c f (Ok None) (Ok (Some t)) e h k = absurd (omega arith)
+same_compared c f (Ok None) (Err r) e h k = absurd (reason_some r (sym e))
+same_compared c f (Ok (Some s)) (Ok None) e h k = absurd (omega arith)
+same_compared c f (Ok (Some s)) (Ok (Some t)) e h k = ap (λ (n : ℕ). Ok (Some n)) (one_first c f s t (h s refl) (k t refl))
+same_compared c f (Ok (Some s)) (Err r) e h k = absurd (reason_not_differing r (sym e))
+same_compared c f (Err q) (Ok None) e h k = absurd (reason_some q e)
+same_compared c f (Err q) (Ok (Some t)) e h k = absurd (reason_not_differing q e)
+same_compared c f (Err q) (Err r) e h k = ap Err (one_reason q r e)

@@ -25,15 +25,12 @@ use Rattle.model.specs.Identifiers.{lies}
 use Rattle.model.specs.Meaning.{Lawful, IdentifiersLaw}
 use Rattle.model.proofs.Pieces.{pieces_whole}
 use Rattle.model.proofs.Lapping.{not_overlapped_lem, held_raw, plain_holds}
-use Rattle.framing.specs.Reading.{raw_of, width_is, value_of, copies_agree, sample_read}
+use Rattle.framing.specs.Reading.{Read, raw_of, width_is, value_of, copies_agree, sample_read}
 use Rattle.framing.specs.Placing.{place_for, placed_for}
-use Rattle.framing.specs.Comparing.{differs_at, differs_in, compared_in}
-use Rattle.framing.specs.declared.read.Reading.{Reading}
+use Rattle.framing.specs.Comparing.{Compared, differs_at, differs_in, compared_in}
 use Rattle.framing.specs.declared.read.Reading.TheVariants as reading
-use Rattle.framing.specs.declared.compare.Compared.{Compared}
-use Rattle.framing.specs.declared.compare.Compared.TheVariants as compared
 use Rattle.table.specs.declared.reason.Reason.TheVariants.{TooLarge}
-use Rattle.std.specs.Prelude.{Result, Ok, Err}
+use Rattle.std.specs.Prelude.{Result, Ok, Err, Some, None}
 use Rattle.framing.specs.Placing.{Placed}
 use Rattle.framing.specs.Wanted.{Wanted}
 
@@ -48,10 +45,10 @@ base_raw c f i j = join f (base_components c i j)
 abbrev pub base_width : Content → ℕ → ℕ → ℕ
 base_width c i j = width (base_components c i j)
 
-abbrev pub base_read : Content → List ℕ → Wanted → Reading
+abbrev pub base_read : Content → List ℕ → Wanted → Read
 base_read c f (Ok (i, j)) =
-    reading.Sample (base_raw c f i j) (base_width c i j) (cond (parameter c i).signed (signed (base_width c i j) (base_raw c f i j)) (pos (base_raw c f i j)))
-base_read c f (Err r) = reading.Refused r
+    Ok (reading.Sample (base_raw c f i j) (base_width c i j) (cond (parameter c i).signed (signed (base_width c i j) (base_raw c f i j)) (pos (base_raw c f i j))))
+base_read c f (Err r) = Err r
 
 abbrev pub base_place : Content → Wanted → ℕ → Placed
 base_place c (Ok (i, j)) v = cond (ltb v (2 ^ base_width c i j)) (Ok tt) (Err TooLarge)
@@ -70,8 +67,8 @@ base_differs_in c f s = any (parameters c) (base_differs_at c f s)
 abbrev pub base_compared : Content → List ℕ → Compared
 base_compared c f =
     cond (ltb (find (subframes c) (λ s. base_differs_in c f (s + 1))) (subframes c))
-    (compared.Differs (find (subframes c) (λ s. base_differs_in c f (s + 1)) + 1))
-    compared.Passes
+    (Ok (Some (find (subframes c) (λ s. base_differs_in c f (s + 1)) + 1)))
+    (Ok None)
 
 -- ---- one sample
 
@@ -88,11 +85,11 @@ module _ (c : Content) (i j : ℕ) (z : overlapped (sample (parameter c i) j) �
   same_width = ap width same_components
 
   -- read
-  pub plain_read : (f : List ℕ) → sample_read c f i j ≡ base_read c f (Ok (i, j))
+  pub plain_read : (f : List ℕ) → Ok (sample_read c f i j) ≡ base_read c f (Ok (i, j))
   unfolding sample_read value_of copies_agree raw_of
   plain_read f =
       rw (plain_holds c.subframes (sample (parameter c i) j) f (not_overlapped_lem (sample (parameter c i) j) z))
-      (λ e. reading.Sample (same_raw f e) (same_width e) (cond (parameter c i).signed (signed (same_width e) (same_raw f e)) (pos (same_raw f e))))
+      (λ e. Ok (reading.Sample (same_raw f e) (same_width e) (cond (parameter c i).signed (signed (same_width e) (same_raw f e)) (pos (same_raw f e)))))
 
   -- placed
   pub plain_place : (v : ℕ) → place_for c (Ok (i, j)) v ≡ base_place c (Ok (i, j)) v
@@ -142,4 +139,4 @@ module _ (lim : Limits) (none : lim.overlap ≡ 0) (c : Content) (v : Lawful lim
   unfolding compared_in differs_in
   plain_compared f =
       let same = find_same (subframes c) (λ s. differs_in c f (s + 1)) (λ s. base_differs_in c f (s + 1)) (λ s l. any_same (parameters c) (differs_at c f (s + 1)) (base_differs_at c f (s + 1)) (λ i m. same_differing f (s + 1) i m)) in
-      ap (λ (n : ℕ). cond (ltb n (subframes c)) (compared.Differs (n + 1)) compared.Passes) same
+      ap (λ (n : ℕ). cond (ltb n (subframes c)) (Ok (Some (n + 1))) (Ok None)) same

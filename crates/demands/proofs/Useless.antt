@@ -27,19 +27,18 @@ use Rattle.text.specs.declared.refusal.Refusal.{Refusal}
 use Rattle.gather.specs.Ruling.{Refused, judge_of}
 use Rattle.gather.specs.WallSheet.{wall_sheet}
 use Rattle.grammar.specs.Says.{Says}
-use Rattle.maker.specs.declared.make.Made.TheVariants as made
 use Rattle.table.proofs.Accepting.{accepted_ruled}
 use Rattle.framing.specs.Reading.{read_number}
 use Rattle.framing.specs.Placing.{place_number}
 use Rattle.framing.specs.Comparing.{compared_number}
-use Rattle.framing.specs.declared.compare.Compared.TheVariants as compared
 use Rattle.demands.specs.Calls.{Calls}
 use Rattle.demands.specs.Refusing.{Rule, rule, components_of, wholes_of, first_broken, place_rules}
 use Rattle.demands.specs.Demands.{HasSample, answer_for, Fitting, FirstDiffering, Demands}
 use Rattle.demands.proofs.Told.{raw_in, answer_raw, one_first}
 use Rattle.demands.proofs.Unbroken.{readable}
 use Rattle.demands.proofs.Wall.{words, others, lower, words_meet, others_meet, lower_meets, sync_listed, pitch_listed, wall_table, made_wall, all_read, says_wall, fitting, there, plain, reads_pitch, pitch_room}
-use Rattle.std.specs.Prelude.{Result, Ok, Err}
+use Rattle.std.specs.Prelude.{Result, Ok, Err, Some}
+use Rattle.maker.specs.Made.{unmade}
 
 -- ---- no bytes are no table: 18 stands first in every call
 
@@ -108,7 +107,7 @@ second_kept : bit_in filled second ≡ bit_in lower second → ⊥
 unfolding bit_at
 second_kept e = omega (arith, e)
 
-answer_zero : (c : Content) (p s v : ℕ) → read_number (answer_for c p s v) ≡ 0
+answer_zero : (c : Content) (p s v : ℕ) → read_number (Ok (answer_for c p s v)) ≡ 0
 unfolding read_number
 answer_zero c p s v = refl
 
@@ -128,7 +127,7 @@ module _ (B : Calls) (D : Demands B) where
   -- ---- 01's useless versions
 
   -- refusing all sheets
-  pub some_sheet_taken : ((s l : List ℕ) (n : ℕ) → B.make s l ≡ made.Length n → ⊥) → ⊥
+  pub some_sheet_taken : ((s l : List ℕ) (n : ℕ) → B.make s l ≡ Ok n → ⊥) → ⊥
   some_sheet_taken u = u wall_sheet (write newest wall) (length (write newest wall)) (made_wall B D)
 
   -- refusing all tables
@@ -177,10 +176,10 @@ module _ (B : Calls) (D : Demands B) where
       second_kept (sym (join_agree g filled (components_of (view t) 2 1) (e ∙ sym k) second n) ∙ u t lower 2 1 63 h l second o)
 
   -- an invented table length: of whatever sheet, there is no other
-  pub no_other_length : (s l : List ℕ) (n : ℕ) (c : Content) → Says s c → B.make s l ≡ made.Length n → n ≡ length (write newest c)
+  pub no_other_length : (s l : List ℕ) (n : ℕ) (c : Content) → Says s c → B.make s l ≡ Ok n → n ≡ length (write newest c)
   no_other_length s l n c w e = go (dec_le (length (write newest c)) (length l))
     where
-      lengths : {a b : ℕ} → made.Length a ≡ made.Length b → a ≡ b
+      lengths : {a b : ℕ} → Ok a ≡ Ok b → a ≡ b
       lengths q = cc
 
       go : Dec (length (write newest c) ≤ length l) → n ≡ length (write newest c)
@@ -192,15 +191,15 @@ module _ (B : Calls) (D : Demands B) where
           absurd (omega arith)
 
   -- an invented refusal or line: of whatever sheet that is refused, there is no other
-  pub no_other_line : (s l : List ℕ) (q r : Refusal) (k m : ℕ) → judge_of s ≡ Refused q k → B.make s l ≡ made.Refused r m → (r ≡ q) × (m ≡ k)
+  pub no_other_line : (s l : List ℕ) (q r : Refusal) (k m : ℕ) → judge_of s ≡ Refused q k → B.make s l ≡ unmade r m → (r ≡ q) × (m ≡ k)
   no_other_line s l q r k m e h = let x = sym h ∙ (D.one.sheets s l q k).1 (inl e) in ((cc), (cc))
 
   -- an invented subframe number: of whatever table and frame, there is no other
-  pub no_other_subframe : (t f : List ℕ) (s k : ℕ) → B.compare t f ≡ compared.Differs s → FirstDiffering (view t) f k → s ≡ k
+  pub no_other_subframe : (t f : List ℕ) (s k : ℕ) → B.compare t f ≡ Ok (Some s) → FirstDiffering (view t) f k → s ≡ k
   no_other_subframe t f s k e x = one_first (view t) f s k (D.one.subframe_told t f s e) x
 
   -- an item of the table that is no byte, though the table is viewed alike: of whatever sheet, there is none
-  pub no_item_above : (s l : List ℕ) (n i : ℕ) → B.make s l ≡ made.Length n → 256 ≤ get_or (take n (B.made s l)) i 0 → ⊥
+  pub no_item_above : (s l : List ℕ) (n i : ℕ) → B.make s l ≡ Ok n → 256 ≤ get_or (take n (B.made s l)) i 0 → ⊥
   no_item_above s l n i e h = omega (arith, D.two.sheet.bytes s l n e i)
 
   -- ---- bad ones: every read answered, every placing done, every comparison passed, the words wiped

@@ -37,8 +37,7 @@ use Rattle.framing.specs.Comparing.{differs_at, differs_in, compared_in, compare
 use Rattle.stream.specs.Stream.{stream_bit, bits_from}
 use Rattle.carding.specs.Layout.{subframe_bits, bits_before, frame_bits, words_begin, word_begins, word_in, frame_at}
 use Rattle.carding.specs.Search.{whole_at, agrees_at, sought_at, FirstFrame}
-use Rattle.carding.specs.Answer.{margins_known, carded_number}
-use Rattle.carding.specs.declared.carded.Carded.TheVariants.{Found, Refused}
+use Rattle.carding.specs.Answer.{margins_known, carded_number, found_at}
 use Rattle.table.specs.declared.reason.Reason.TheVariants.{NoFrame}
 use Rattle.carding.proofs.Back.{carried}
 use Rattle.carding.proofs.Examples.{bare as card, tight, trailed}
@@ -175,7 +174,7 @@ pub record Elsewhere (c : Content) (y : List ℕ) (p : ℕ) (f : List ℕ) : Typ
 record CardRead (B : Calls) (c : Content) (y w : List ℕ) : Type 0 where
   at : ℕ
   count : ℕ
-  is : B.card_from (write newest c) y 0 w ≡ Found at count
+  is : B.card_from (write newest c) y 0 w ≡ found_at at count
   said : CardAsSaid B (write newest c) y 0 w at count c
 
 module _ (B : Calls) (D : Demands B) (c : Content) (h : lawful sheet_limits c ≡ true) (some : leb 1 (parameters c) ≡ true) (known : margins_known c ≡ true) where
@@ -205,11 +204,11 @@ module _ (B : Calls) (D : Demands B) where
   wall_shifted = card_read B D tight tight_lawful refl tight_known shifted words refl 4 shifted_whole shifted_agrees (omega arith) refl
 
   -- always 25
-  pub some_card_read : ((t y : List ℕ) (from : ℕ) (w : List ℕ) → B.card_from t y from w ≡ Refused NoFrame) → ⊥
+  pub some_card_read : ((t y : List ℕ) (from : ℕ) (w : List ℕ) → B.card_from t y from w ≡ Err NoFrame) → ⊥
   some_card_read u = let e = sym (u (write newest tight) card 0 words) ∙ wall_card.is in let z : ◌≡◌ {A = ℕ} 0 1 = cc in omega arith
 
   -- steps by whole bytes
-  pub not_whole_bytes : ((t y : List ℕ) (from : ℕ) (w : List ℕ) (p n : ℕ) → B.card_from t y from w ≡ Found p n → p % 8 ≡ 0) → ⊥
+  pub not_whole_bytes : ((t y : List ℕ) (from : ℕ) (w : List ℕ) (p n : ℕ) → B.card_from t y from w ≡ found_at p n → p % 8 ≡ 0) → ⊥
   not_whole_bytes u = go wall_shifted.at (u (write newest tight) shifted 0 words wall_shifted.at wall_shifted.count wall_shifted.is) wall_shifted.said.first
     where
       go : (p : ℕ) → p % 8 ≡ 0 → FirstFrame tight shifted 0 p → ⊥
@@ -258,7 +257,7 @@ module _ (B : Calls) (D : Demands B) where
   handed_is = sym (carried tight handed wall_card.said.carries) ∙ ap (frame_at tight card) at_first
 
   -- the high bit of a byte first: of the first word's lowest bit
-  pub low_bit_first : ((t y : List ℕ) (from : ℕ) (w : List ℕ) (p n : ℕ) → B.card_from t y from w ≡ Found p n
+  pub low_bit_first : ((t y : List ℕ) (from : ℕ) (w : List ℕ) (p n : ℕ) → B.card_from t y from w ≡ found_at p n
       → bit_at (get_or (take n (B.handed_from t y from w)) 0 0) 0 ≡ high_bit y (p + word_begins (view t) 0 0)) → ⊥
   unfolding bit_at word_begins words_begin bits_before
   low_bit_first u =
@@ -268,7 +267,7 @@ module _ (B : Calls) (D : Demands B) where
       omega (arith, a, b, e)
 
   -- the words of another position, of whatever other
-  pub not_another_position : ((t y : List ℕ) (from : ℕ) (w : List ℕ) (p n : ℕ) → B.card_from t y from w ≡ Found p n
+  pub not_another_position : ((t y : List ℕ) (from : ℕ) (w : List ℕ) (p n : ℕ) → B.card_from t y from w ≡ found_at p n
       → Elsewhere (view t) y p (take n (B.handed_from t y from w))) → ⊥
   not_another_position u =
       let e = u (write newest tight) card 0 words wall_card.at wall_card.count wall_card.is in

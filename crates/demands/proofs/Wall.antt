@@ -20,12 +20,13 @@ use Rattle.model.specs.Forms.{newest}
 use Rattle.model.specs.Write.{write}
 use Rattle.gather.specs.WallSheet.{wall_sheet}
 use Rattle.rulings.proofs.WallSaid.{wall_sheet_says}
-use Rattle.maker.specs.declared.make.Made.TheVariants as made
 use Rattle.framing.specs.declared.read.Reading.TheVariants.{Sample}
 use Rattle.demands.specs.Calls.{Calls}
 use Rattle.demands.specs.Refusing.{components_of}
 use Rattle.demands.specs.Demands.{HasSample, meaning, Fitting, NoOverlap, Demands}
 use Rattle.demands.proofs.EndToEnd.{read_by, ReadAsSaid, read_as_said}
+use Rattle.std.specs.Prelude.{Ok}
+use Rattle.maker.specs.Made.{unmade}
 
 -- ---- 01's frame, one with another first word, one with another second part of Pitch, one with a bit that Pitch does not name
 
@@ -64,11 +65,11 @@ pub pitch_listed : HasSample wall 2 1
 pitch_listed = record { parameter_least = omega arith; parameter_most = omega arith; sample_least = omega arith; sample_most = omega arith }
 
 -- read the minus sign aloud: Pitch is minus eleven
-pub pitch_read : read_by wall words 2 1 ≡ Sample 53 6 (negsuc 10)
+pub pitch_read : read_by wall words 2 1 ≡ Ok (Sample 53 6 (negsuc 10))
 unfolding bit_at field signed part_of join width sum before position word_counts whole piece pieces place_in holds_at holds components_of meaning
 pitch_read = refl
 
-pub sync_read : read_by wall words 1 1 ≡ Sample 583 12 (pos 583)
+pub sync_read : read_by wall words 1 1 ≡ Ok (Sample 583 12 (pos 583))
 unfolding bit_at field signed part_of join width sum before position word_counts whole piece pieces place_in holds_at holds components_of meaning
 sync_read = refl
 
@@ -94,7 +95,7 @@ abbrev pub wall_table : Calls → List ℕ
 wall_table B = take (length (write newest wall)) (B.made wall_sheet (write newest wall))
 
 module _ (B : Calls) (D : Demands B) where
-  pub made_wall : B.make wall_sheet (write newest wall) ≡ made.Length (length (write newest wall))
+  pub made_wall : B.make wall_sheet (write newest wall) ≡ Ok (length (write newest wall))
   made_wall = D.two.sheet.taken wall_sheet (write newest wall) wall wall_sheet_says (omega arith)
 
   pub all_read : ReadAsSaid B wall_sheet (write newest wall) (length (write newest wall)) wall
@@ -109,10 +110,10 @@ module _ (B : Calls) (D : Demands B) where
   pub there : (p s : ℕ) → HasSample wall p s → HasSample (view (wall_table B)) p s
   there p s = subst (λ (c : Content). HasSample c p s) (sym says_wall)
 
-  pub reads_pitch : B.read (wall_table B) words 2 1 ≡ Sample 53 6 (negsuc 10)
+  pub reads_pitch : B.read (wall_table B) words 2 1 ≡ Ok (Sample 53 6 (negsuc 10))
   reads_pitch = all_read.reads words 2 1 words_meet pitch_listed ∙ pitch_read
 
-  pub reads_sync : B.read (wall_table B) words 1 1 ≡ Sample 583 12 (pos 583)
+  pub reads_sync : B.read (wall_table B) words 1 1 ≡ Ok (Sample 583 12 (pos 583))
   reads_sync = all_read.reads words 1 1 words_meet sync_listed ∙ sync_read
 
   pub plain : NoOverlap (view (wall_table B))

@@ -1,17 +1,16 @@
 -- The calls of any bench, ours or another's: what each answers, and what it leaves of the bytes and words it was lent.
-use Rattle.std.specs.Prelude.{ℕ, List}
+use Rattle.std.specs.Prelude.{ℕ, List, Result, Ok, Err}
 use Rattle.std.specs.Borrow.{Bor}
-use Rattle.maker.specs.declared.make.Made.{Made}
-use Rattle.framing.specs.declared.read.Reading.{Reading}
-use Rattle.framing.specs.declared.compare.Compared.{Compared}
 use Rattle.framing.specs.declared.page.Request.{Request}
 use Rattle.framing.specs.declared.page.Outcome.{Outcome}
 use Rattle.framing.specs.declared.page.Paged.{Paged}
-use Rattle.carding.specs.declared.carded.Carded.{Carded}
 use Rattle.bench.specs.Promises.{Makes, Checks, Reads, Places, Compares, Pages, Names, NameNumbered, NamesBy, NameByNumbered, Cards, FrameBits}
-use Rattle.std.specs.Prelude.{Result, Ok, Err}
 use Rattle.framing.specs.Placing.{Placed}
 use Rattle.table.specs.Answers.{Checked}
+use Rattle.framing.specs.Comparing.{Compared}
+use Rattle.framing.specs.Reading.{Read}
+use Rattle.maker.specs.Made.{Made}
+use Rattle.carding.specs.Answer.{Carded}
 
 pub record Calls : Type 0 where
   -- sheet, lent bytes
@@ -20,7 +19,7 @@ pub record Calls : Type 0 where
   -- table
   pub check : List ℕ → Checked
   -- table, words, parameter, sample
-  pub read : List ℕ → List ℕ → ℕ → ℕ → Reading
+  pub read : List ℕ → List ℕ → ℕ → ℕ → Read
   -- and a value
   pub place : List ℕ → List ℕ → ℕ → ℕ → ℕ → Placed
   pub placed : List ℕ → List ℕ → ℕ → ℕ → ℕ → List ℕ

@@ -1,5 +1,5 @@
 -- The three demands, of any bench.
-use Rattle.std.specs.Prelude.{ℕ, ◌+◌, ◌-◌, ◌^◌, ◌≤◌, ◌<◌, Bool, true, false, cond, ◌≡◌, List, [], ◌⊎◌, ◌↔◌, ℤ, pos, length, get_or, take, drop}
+use Rattle.std.specs.Prelude.{ℕ, ◌+◌, ◌-◌, ◌^◌, ◌≤◌, ◌<◌, Bool, true, false, cond, ◌≡◌, List, [], ◌⊎◌, ◌↔◌, ℤ, pos, length, get_or, take, drop, Some, None, Result, Ok, Err}
 use Rattle.std.specs.Borrow.{Bor}
 use Rattle.bits.specs.Sign.{signed}
 use Rattle.lay.specs.Bytes.{AreBytes}
@@ -18,25 +18,21 @@ use Rattle.text.specs.declared.refusal.Refusal.{Refusal}
 use Rattle.text.specs.declared.refusal.Refusal.TheVariants.{TableTooSmall}
 use Rattle.gather.specs.Ruling.{Refused, judge_of}
 use Rattle.grammar.specs.Says.{Says}
-use Rattle.maker.specs.declared.make.Made.TheVariants as made
 use Rattle.table.specs.Answers.{check_number}
-use Rattle.framing.specs.Reading.{read_number}
+use Rattle.framing.specs.Reading.{Read, read_number}
+use Rattle.framing.specs.declared.read.Reading.{Reading}
 use Rattle.framing.specs.Outcomes.{outcome_of}
 use Rattle.framing.specs.Placing.{place_number}
 use Rattle.framing.specs.Comparing.{differs_in, compared_number}
-use Rattle.framing.specs.declared.read.Reading.{Reading}
 use Rattle.framing.specs.declared.read.Reading.TheVariants.{Sample, OverlapDiffers}
 use Rattle.framing.specs.declared.page.Request.{Request}
 use Rattle.framing.specs.declared.page.Outcome.{Outcome}
-use Rattle.framing.specs.declared.compare.Compared.TheVariants.{Passes, Differs}
 use Rattle.carding.specs.Layout.{frame_bits, Carries}
 use Rattle.carding.specs.Search.{FirstFrame}
-use Rattle.carding.specs.Answer.{carded_number}
-use Rattle.carding.specs.declared.carded.Carded.{Carded}
-use Rattle.carding.specs.declared.carded.Carded.TheVariants.{Found}
+use Rattle.carding.specs.Answer.{carded_number, Carded, found_at}
 use Rattle.demands.specs.Calls.{Calls}
 use Rattle.demands.specs.Refusing.{sample_of, components_of, wholes_of, first_broken, check_rules, read_rules, place_rules, compare_rules, name_rules, mnemonic_rules, card_rules, bits_rules, page_rules}
-use Rattle.std.specs.Prelude.{Result, Ok, Err}
+use Rattle.maker.specs.Made.{unmade}
 
 -- ---- words that the demands use
 
@@ -63,11 +59,11 @@ abbrev pub agree_in : Content → List ℕ → ℕ → ℕ → Bool
 agree_in c f p s = holds c.subframes f (sample_of c p s) (join f (components_of c p s))
 
 -- and so what a read of it answers in the frame f
-abbrev pub answer_in : Content → List ℕ → ℕ → ℕ → Reading
+abbrev pub answer_in : Content → List ℕ → ℕ → ℕ → Read
 answer_in c f p s =
-    cond (agree_in c f p s)
+    Ok (cond (agree_in c f p s)
     (answer_for c p s (join f (components_of c p s)))
-    (differs_for c p s (join f (components_of c p s)))
+    (differs_for c p s (join f (components_of c p s))))
 
 -- "a table that the check accepts, no matter who made it, and frames that fit it"
 pub record Fitting (B : Calls) (t f : List ℕ) : Type 0 where
@@ -117,14 +113,14 @@ pub record NothingPaged (B : Calls) (t f : List ℕ) (qs : List Request) (rs : L
 -- A call is refused with n exactly where n is the number of the first broken rule of its list (Refusing), and answered, its number
 -- being 0, exactly where none is broken. A sheet's refusal and line are those of the judge, or 17 at 0.
 pub record One (B : Calls) : Type 0 where
-  pub sheets : (s l : List ℕ) (q : Refusal) (k : ℕ) → (B.make s l ≡ made.Refused q k) ↔ SheetRefused s l q k
-  pub sheet_unchanged : (s l : List ℕ) (q : Refusal) (k : ℕ) → B.make s l ≡ made.Refused q k → B.made s l ≡ l
+  pub sheets : (s l : List ℕ) (q : Refusal) (k : ℕ) → (B.make s l ≡ unmade q k) ↔ SheetRefused s l q k
+  pub sheet_unchanged : (s l : List ℕ) (q : Refusal) (k : ℕ) → B.make s l ≡ unmade q k → B.made s l ≡ l
   pub tables : (t : List ℕ) → check_number (B.check t) ≡ first_broken (check_rules t)
   pub reads : (t f : List ℕ) (p s : ℕ) → read_number (B.read t f p s) ≡ first_broken (read_rules t f p s)
   pub places : (t f : List ℕ) (p s v : ℕ) → place_number (B.place t f p s v) ≡ first_broken (place_rules t f p s v)
   pub place_unchanged : (t f : List ℕ) (p s v : ℕ) → (first_broken (place_rules t f p s v) ≡ 0 → ⊥) → B.placed t f p s v ≡ f
   pub compares : (t f : List ℕ) → compared_number (B.compare t f) ≡ first_broken (compare_rules t f)
-  pub subframe_told : (t f : List ℕ) (s : ℕ) → B.compare t f ≡ Differs s → FirstDiffering (view t) f s
+  pub subframe_told : (t f : List ℕ) (s : ℕ) → B.compare t f ≡ Ok (Some s) → FirstDiffering (view t) f s
   pub pages : (t f : List ℕ) (qs : List Request) (rs : List Outcome) → (B.page t f qs rs).number ≡ first_broken (page_rules qs rs)
   pub page_unchanged : (t f : List ℕ) (qs : List Request) (rs : List Outcome) → (first_broken (page_rules qs rs) ≡ 0 → ⊥) → NothingPaged B t f qs rs
   pub names : (t : List ℕ) (p : ℕ) → B.name_number t p ≡ first_broken (name_rules t p)
@@ -142,14 +138,14 @@ pub record One (B : Calls) : Type 0 where
 -- a sheet
 pub record SheetTaken (B : Calls) : Type 0 where
   -- accepted exactly where the sheet says something, and the lent bytes are enough for its table
-  pub taken : (s l : List ℕ) (c : Content) → Says s c → length (write newest c) ≤ length l → B.make s l ≡ made.Length (length (write newest c))
-  pub only : (s l : List ℕ) (n : ℕ) → B.make s l ≡ made.Length n → (c : Content) × Says s c
-  pub says : (s l : List ℕ) (n : ℕ) (c : Content) → B.make s l ≡ made.Length n → Says s c → view (take n (B.made s l)) ≡ c
+  pub taken : (s l : List ℕ) (c : Content) → Says s c → length (write newest c) ≤ length l → B.make s l ≡ Ok (length (write newest c))
+  pub only : (s l : List ℕ) (n : ℕ) → B.make s l ≡ Ok n → (c : Content) × Says s c
+  pub says : (s l : List ℕ) (n : ℕ) (c : Content) → B.make s l ≡ Ok n → Says s c → view (take n (B.made s l)) ≡ c
   -- 02: "Blank is now stored .. in tables of form 2": a new table is of the newest form
-  pub form : (s l : List ℕ) (n : ℕ) → B.make s l ≡ made.Length n → form_in (take n (B.made s l)) ≡ newest
+  pub form : (s l : List ℕ) (n : ℕ) → B.make s l ≡ Ok n → form_in (take n (B.made s l)) ≡ newest
   -- what is left is bytes, each below 256: 583 as one item would be viewed as 71 and 2 are
-  pub bytes : (s l : List ℕ) (n : ℕ) → B.make s l ≡ made.Length n → AreBytes (take n (B.made s l))
-  pub later : (s l : List ℕ) (n : ℕ) → B.make s l ≡ made.Length n → drop n (B.made s l) ≡ drop n l
+  pub bytes : (s l : List ℕ) (n : ℕ) → B.make s l ≡ Ok n → AreBytes (take n (B.made s l))
+  pub later : (s l : List ℕ) (n : ℕ) → B.make s l ≡ Ok n → drop n (B.made s l) ≡ drop n l
 
 -- the parameter's name, asked for by its number or its mnemonic
 pub record NameAnswered (B : Calls) : Type 0 where
@@ -160,7 +156,7 @@ pub record NameAnswered (B : Calls) : Type 0 where
 -- a value placed
 pub record ValuePlaced (B : Calls) (t f : List ℕ) (p s v : ℕ) : Type 0 where
   pub done : B.place t f p s v ≡ Ok tt
-  pub back : B.read t (B.placed t f p s v) p s ≡ answer_for (view t) p s v
+  pub back : B.read t (B.placed t f p s v) p s ≡ Ok (answer_for (view t) p s v)
   pub other : (q : Place) → (Named (components_of (view t) p s) q → ⊥) → bit_in (B.placed t f p s v) q ≡ bit_in f q
 
 -- a page: 02's "Each result equals what the single read answers, its refusal included", "results beyond the requests stay". It is the
@@ -176,7 +172,7 @@ pub record PageRead (B : Calls) (t f : List ℕ) (qs : List Request) (rs : List 
 -- that frame's words, equal to the stream's bits", "words beyond the frame stay"
 pub record FrameHanded (c : Content) (y : List ℕ) (from : ℕ) (w : List ℕ) (r : Carded) (o : List ℕ) : Type 0 where
   pub position : ℕ
-  pub is : r ≡ Found position (frame_words c)
+  pub is : r ≡ found_at position (frame_words c)
   pub first : FirstFrame c y from position
   pub words : Carries c y position (take (frame_words c) o)
   pub beyond : drop (frame_words c) o ≡ drop (frame_words c) w
@@ -211,7 +207,7 @@ pub record Answered (B : Calls) (t f : List ℕ) (p s : ℕ) : Type 0 where
   pub wide : ℕ
   pub value : ℤ
   pub agree : Bool
-  pub is : B.read t f p s ≡ cond agree (Sample raw wide value) (OverlapDiffers raw wide value)
+  pub is : B.read t f p s ≡ Ok (cond agree (Sample raw wide value) (OverlapDiffers raw wide value))
   pub below : raw < 2 ^ wide
 
 pub record SameAnswers (B : Calls) (t f g : List ℕ) : Type 0 where
@@ -227,15 +223,15 @@ pub record NoOverlap (c : Content) : Type 0 where
 -- 02: "3 is read over the frame handed out": it fits, so all that is said of frames is said of it, and comparing it passes
 pub record FrameFits (B : Calls) (t f : List ℕ) : Type 0 where
   pub fitting : Fitting B t f
-  pub compared : B.compare t f ≡ Passes
+  pub compared : B.compare t f ≡ Ok None
 
 pub record Three (B : Calls) : Type 0 where
-  pub passes : (s l : List ℕ) (n : ℕ) → B.make s l ≡ made.Length n → B.check (take n (B.made s l)) ≡ Ok tt
+  pub passes : (s l : List ℕ) (n : ℕ) → B.make s l ≡ Ok n → B.check (take n (B.made s l)) ≡ Ok tt
   pub answers : (t f : List ℕ) (p s : ℕ) → Fitting B t f → HasSample (view t) p s → Answered B t f p s
   pub exactly : (t f g : List ℕ) → Fitting B t f → Fitting B t g → NoOverlap (view t) → SameAnswers B t f g ↔ SameBits t f g
   -- and of every table one half of it
   pub alike : (t f g : List ℕ) → Fitting B t f → Fitting B t g → SameBits t f g → SameAnswers B t f g
-  pub handed_fits : (t y : List ℕ) (from : ℕ) (w : List ℕ) (p n : ℕ) → B.card_from t y from w ≡ Found p n
+  pub handed_fits : (t y : List ℕ) (from : ℕ) (w : List ℕ) (p n : ℕ) → B.card_from t y from w ≡ found_at p n
       → FrameFits B t (take n (B.handed_from t y from w))
 
 pub record Demands (B : Calls) : Type 0 where

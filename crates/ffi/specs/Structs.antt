@@ -1,14 +1,11 @@
 -- The structs that C sees: one definition each, of what the bench answers. The number is 01's or 02's. A read's and a page's are the
 -- bench's own (framing: Outcomes, Paging).
-use Rattle.std.specs.Prelude.{ℕ, List, length}
-use Rattle.std.specs.Prelude.{Ok, Err}
+use Rattle.std.specs.Prelude.{ℕ, List, length, Ok, Err, Some, None}
 use Rattle.maker.specs.Made.{Made, made_number}
 use Rattle.table.specs.Answers.{Asked, asked_refusal, name_answered, place_answered}
 use Rattle.table.specs.Reasons.{reason_number}
 use Rattle.table.specs.declared.reason.Reason.{Reason}
-use Rattle.framing.specs.Comparing.{compared_number}
-use Rattle.framing.specs.declared.compare.Compared.{Compared}
-use Rattle.framing.specs.declared.compare.Compared.TheVariants as compared
+use Rattle.framing.specs.Comparing.{Compared, compared_number}
 use Rattle.carding.specs.Answer.{Carded, carded_number}
 use Rattle.ffi.specs.declared.sheets.OrbMade.{OrbMade}
 use Rattle.ffi.specs.declared.tables.OrbName.{OrbName}
@@ -38,9 +35,9 @@ no_name_out r = record { number = reason_number r; start = 0; length = 0 }
 
 -- the subframe that differs, else 0
 unfoldable pub differing : Compared → ℕ
-differing (compared.Differs s) = s
-differing compared.Passes = 0
-differing (compared.Refused r) = 0
+differing (Ok (Some s)) = s
+differing (Ok None) = 0
+differing (Err r) = 0
 
 unfoldable pub compared_out : Compared → OrbCompared
 compared_out c = record { number = compared_number c; subframe = differing c }

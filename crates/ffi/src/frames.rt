@@ -6,8 +6,8 @@ ghost use Rattle.ffi.specs.Promises.{ReadsOut, PlacesOut, ComparesOut};
 
 use bench::frames::{compare, compare_number, place, place_number, read};
 use frame::page::outcome_of;
-use framing::compare::Compared;
 use framing::page::Outcome;
+use table::reason::Reason;
 
 // The subframe stands beside 24, and is 0 elsewhere.
 #[repr(C)]
@@ -17,21 +17,18 @@ pub struct OrbCompared {
     pub subframe: u32,
 }
 
-fn compared_out(compared: Compared) -> OrbCompared
+#[tactic(auto, unfolding(crate::specs::Structs::compared_out, crate::specs::Structs::differing))]
+fn compared_out(compared: Result<Option<usize>, Reason>) -> OrbCompared
     requires { SubframeFits compared }
     ensures { result ≡ compared_out compared }
 {
     let number = compare_number(compared);
     match compared {
-        Compared::Differs(s) => OrbCompared {
+        Ok(Some(s)) => OrbCompared {
             number,
             subframe: s as u32,
         },
-        Compared::Passes => OrbCompared {
-            number,
-            subframe: 0,
-        },
-        Compared::Refused(_) => OrbCompared {
+        Ok(None) | Err(_) => OrbCompared {
             number,
             subframe: 0,
         },
