@@ -24,7 +24,7 @@ use Rattle.listed.specs.Lines.{row_text}
 use Rattle.listed.specs.Listing.{row_most, words_of}
 use Rattle.listed.proofs.RowLaws.{name_is, name_short}
 use Rattle.bench.specs.Texts.{Fills, row_of, row_for, WordsFill}
-use Rattle.std.specs.Prelude.{Result, Ok, Err}
+use Rattle.std.specs.Prelude.{Ok, Err}
 
 -- ---- a text
 

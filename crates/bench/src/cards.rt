@@ -19,6 +19,7 @@ pub fn card(t: &[u8], stream: &[u8], words: &mut [u16]) -> Result<Found, Reason>
 }
 
 // 0, 18, 27, 26, 38, 25 or 28.
+#[tactic(auto, unfolding(carding::specs::Answer::carded_number))]
 pub fn card_number(carded: Result<Found, Reason>) -> u32
     ensures { CardNumbered carded result }
 {

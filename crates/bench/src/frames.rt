@@ -32,6 +32,7 @@ pub fn place(
 }
 
 // The same numbers, then 23.
+#[tactic(auto, unfolding(framing::specs::Placing::place_number))]
 pub fn place_number(placed: Result<(), Reason>) -> u32
     ensures { PlaceNumbered placed result }
 {

@@ -10,6 +10,7 @@ pub fn check(t: &[u8]) -> Result<(), Reason>
 }
 
 // 0 or 18.
+#[tactic(auto, unfolding(table::specs::Answers::check_number))]
 pub fn check_number(checked: Result<(), Reason>) -> u32
     ensures { CheckNumbered checked result }
 {

@@ -14,7 +14,7 @@ use Rattle.table.specs.declared.reason.Reason.{Reason}
 use Rattle.table.proofs.Asking.{number_asked, mnemonic_asked}
 use Rattle.ffi.specs.Structs.{no_name_out, name_out}
 use Rattle.ffi.specs.declared.tables.OrbName.{OrbName}
-use Rattle.std.specs.Prelude.{Result, Ok, Err}
+use Rattle.std.specs.Prelude.{Ok, Err}
 use Rattle.table.specs.Answers.{Asked}
 
 abbrev name_struct : ℕ → ℕ → ℕ → OrbName

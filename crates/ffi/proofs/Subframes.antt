@@ -16,7 +16,7 @@ use Rattle.framing.specs.Fitting.{fit_of}
 use Rattle.framing.specs.Comparing.{Compared, differs_in, compared_in, fitted_compared, compared_of}
 use Rattle.table.specs.declared.reason.Reason.TheVariants.{NoTable}
 use Rattle.ffi.specs.Sizes.{SubframeFits}
-use Rattle.std.specs.Prelude.{Result, Ok, Err, Some, None}
+use Rattle.std.specs.Prelude.{Ok, Err, Some, None}
 use Rattle.framing.specs.Fitting.{Fit}
 
 module _ (b f : List ℕ) where

@@ -25,10 +25,7 @@ fn made_out(made: Result<usize, Rejected>) -> OrbMade
             number,
             at: n as u32,
         },
-        Err(rejected) => OrbMade {
-            number,
-            at: rejected.line,
-        },
+        Err(Rejected { line, .. }) => OrbMade { number, at: line },
     }
 }
 

@@ -1,6 +1,6 @@
 -- The requests before i are answered, and the results from there on are as they were.
 use mathlib.Core.Path.{◌≡◌}
-use Prim.Native.Nat.{◌-◌, ◌≤◌}
+use Prim.Native.Nat.{◌≤◌}
 use lib.ListN.{length}
 use Rattle.framing.specs.Paging.{outcome_at}
 use Rattle.framing.proofs.Pages.{mix}

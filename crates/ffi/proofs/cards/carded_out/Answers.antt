@@ -2,10 +2,10 @@
 use Rattle.ffi.specs.Structs.{carded_out}
 use Rattle.ffi.proofs.cards.carded_out.Goals as goal
 
-pub returns-in-Found : goal.returns-in-Found
+pub returns-in-Ok : goal.returns-in-Ok
 unfolding carded_out
-returns-in-Found c = rw (c.card_number-number.ensures, c.in-Found.is)
+returns-in-Ok c = rw (c.card_number-number.ensures, c.in-Ok.is)
 
-pub returns-in-Refused : goal.returns-in-Refused
+pub returns-in-Err : goal.returns-in-Err
 unfolding carded_out
-returns-in-Refused c = rw (c.card_number-number.ensures, c.in-Refused.is)
+returns-in-Err c = rw (c.card_number-number.ensures, c.in-Err.is)

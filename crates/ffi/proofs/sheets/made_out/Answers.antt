@@ -3,12 +3,12 @@ use Rattle.ffi.specs.Structs.{made_out, made_at}
 use Rattle.ffi.proofs.sheets.made_out.Goals as goal
 
 pub overflow_cast-result : goal.overflow_cast-result
-overflow_cast-result c = record { fits = c.requires.each _ c.in-Length.is }
+overflow_cast-result c = record { fits = c.requires.each _ c.in-Ok.is }
 
-pub returns-in-Length : goal.returns-in-Length
+pub returns-in-Ok : goal.returns-in-Ok
 unfolding made_out made_at
-returns-in-Length c = rw (c.make_number-number.ensures, c.in-Length.is)
+returns-in-Ok c = rw (c.make_number-number.ensures, c.in-Ok.is)
 
-pub returns-in-Refused : goal.returns-in-Refused
+pub returns-in-Err : goal.returns-in-Err
 unfolding made_out made_at
-returns-in-Refused c = rw (c.make_number-number.ensures, c.in-Refused.is)
+returns-in-Err c = rw (c.make_number-number.ensures, c.in-Err.is)
