@@ -14,16 +14,16 @@ pub const PAIRS: usize = SUBFRAMES + 1;
 
 pub const ROWS: usize = PARAMETERS + 1;
 
-// Of a parameter: where its texts stand; for 16 whether it is an identifier, whether it alone is in order, its subframe and its
-// value; and the line of its `PARAMETER:` word.
+// Of a parameter: where its texts stand; its subframe and its value; the line of its `PARAMETER:` word; whether it is an
+// identifier, and whether it alone is in order.
 #[derive(Clone, Copy)]
 pub struct Kept {
     pub places: Places,
-    pub identifier: bool,
-    pub good: bool,
     pub home: u64,
     pub value: u64,
     pub opened_at: u32,
+    pub identifier: bool,
+    pub good: bool,
 }
 
 // Words and bits stand in a list each: lineforms' definition `component_fields` takes two lists.
