@@ -30,7 +30,7 @@ use Rattle.grammar.proofs.Accepted.{accepted_says}
 use Rattle.grammar.proofs.Accepts.{says_accepted}
 use Rattle.maker.specs.Made.{made_of, left_of, unmade}
 use Rattle.maker.proofs.MadeTables.{TooSmall as SmallTable, made_table, left_alone}
-use Rattle.table.specs.Answers.{check_of, check_number, asked_number, asked_mnemonic}
+use Rattle.table.specs.Answers.{Checked, check_of, check_number, asked_number, asked_mnemonic}
 use Rattle.framing.specs.Wanted.{wanted_of}
 use Rattle.framing.specs.Reading.{raw_of, width_is, value_of, copies_agree, sample_read, read_of, read_number}
 use Rattle.framing.specs.Placing.{laps_in, place_for, place_of, placed_for, placed_of, place_number}
@@ -39,7 +39,7 @@ use Rattle.framing.specs.Outcomes.{outcome_of}
 use Rattle.framing.specs.declared.page.Request.{Request}
 use Rattle.framing.specs.declared.page.Outcome.{Outcome}
 use Rattle.framing.specs.declared.page.Paged.{Paged}
-use Rattle.table.specs.declared.reason.Reason.TheVariants.{Overlapped}
+use Rattle.table.specs.declared.reason.Reason.TheVariants.{Overlapped, NoTable}
 use Rattle.framing.proofs.Agree.{Lists, answers_bits, bits_answers}
 use Rattle.framing.proofs.Answered.{answered, raw_below}
 use Rattle.framing.proofs.Pages.{page_all, each_result, later_result, as_many_results}
@@ -62,7 +62,7 @@ pub accepts_of : (t : List ℕ) → check_of t ≡ Ok tt → accepts t ≡ true
 unfolding check_of
 accepts_of t e = go (accepts t) e
   where
-    go : (b : Bool) → cond b (Ok tt) (Err NoTable) ≡ Ok tt → b ≡ true
+    go : (b : Bool) → ◌≡◌ {A = Checked} (cond b (Ok tt) (Err NoTable)) (Ok tt) → b ≡ true
     go true q = refl
     go false q = let z : ◌≡◌ {A = ℕ} 0 1 = cc in absurd (omega arith)
 

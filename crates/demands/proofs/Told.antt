@@ -17,6 +17,7 @@ use Rattle.framing.specs.Comparing.{Compared, compared_number}
 use Rattle.framing.specs.declared.read.Reading.TheVariants as reading
 use Rattle.demands.specs.Refusing.{components_of}
 use Rattle.demands.specs.Demands.{answer_for, differs_for, agree_in, answer_in, FirstDiffering}
+use Rattle.table.specs.declared.reason.Reason.TheVariants.{NoTable}
 use Rattle.std.specs.Prelude.{Result, Ok, Err, Some, None}
 use Rattle.framing.specs.Placing.{Placed}
 use Rattle.table.specs.Answers.{Checked}
@@ -56,8 +57,8 @@ pub same_checked : (x : Checked) (a : Bool) → check_number x ≡ cond a 0 18 �
 unfolding check_number reason_number
 same_checked (Ok _) true e = refl
 same_checked (Ok _) false e = absurd (omega arith)
-same_checked (Err _) true e = absurd (omega arith)
-same_checked (Err _) false e = refl
+same_checked (Err r) true e = absurd (reason_some r e)
+same_checked (Err r) false e = ap Err (one_reason r NoTable e)
 
 -- ---- there is one first differing subframe
 

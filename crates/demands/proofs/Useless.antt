@@ -37,8 +37,10 @@ use Rattle.demands.specs.Demands.{HasSample, answer_for, Fitting, FirstDiffering
 use Rattle.demands.proofs.Told.{raw_in, answer_raw, one_first}
 use Rattle.demands.proofs.Unbroken.{readable}
 use Rattle.demands.proofs.Wall.{words, others, lower, words_meet, others_meet, lower_meets, sync_listed, pitch_listed, wall_table, made_wall, all_read, says_wall, fitting, there, plain, reads_pitch, pitch_room}
+use Rattle.table.specs.declared.reason.Reason.TheVariants.{NoTable}
 use Rattle.std.specs.Prelude.{Result, Ok, Err, Some}
-use Rattle.maker.specs.Made.{unmade}
+use Rattle.maker.specs.Made.{Made, unmade}
+use Rattle.judge.specs.declared.walk.Rejected.{Rejected}
 
 -- ---- no bytes are no table: 18 stands first in every call
 
@@ -179,7 +181,7 @@ module _ (B : Calls) (D : Demands B) where
   pub no_other_length : (s l : List ℕ) (n : ℕ) (c : Content) → Says s c → B.make s l ≡ Ok n → n ≡ length (write newest c)
   no_other_length s l n c w e = go (dec_le (length (write newest c)) (length l))
     where
-      lengths : {a b : ℕ} → Ok a ≡ Ok b → a ≡ b
+      lengths : {a b : ℕ} → ◌≡◌ {A = Made} (Ok a) (Ok b) → a ≡ b
       lengths q = cc
 
       go : Dec (length (write newest c) ≤ length l) → n ≡ length (write newest c)
@@ -192,7 +194,12 @@ module _ (B : Calls) (D : Demands B) where
 
   -- an invented refusal or line: of whatever sheet that is refused, there is no other
   pub no_other_line : (s l : List ℕ) (q r : Refusal) (k m : ℕ) → judge_of s ≡ Refused q k → B.make s l ≡ unmade r m → (r ≡ q) × (m ≡ k)
-  no_other_line s l q r k m e h = let x = sym h ∙ (D.one.sheets s l q k).1 (inl e) in ((cc), (cc))
+  no_other_line s l q r k m e h = let x = sym h ∙ (D.one.sheets s l q k).1 (inl e) in same_rejected x
+    where
+      same_rejected : {q r : Refusal} {k m : ℕ} → unmade r m ≡ unmade q k → (r ≡ q) × (m ≡ k)
+      same_rejected {q} {r} {k} {m} e =
+          let p : ◌≡◌ {A = Rejected} (record { refusal = r; line = m }) (record { refusal = q; line = k }) = cc in
+          (ap (λ (x : Rejected). x.refusal) p, ap (λ (x : Rejected). x.line) p)
 
   -- an invented subframe number: of whatever table and frame, there is no other
   pub no_other_subframe : (t f : List ℕ) (s k : ℕ) → B.compare t f ≡ Ok (Some s) → FirstDiffering (view t) f k → s ≡ k
