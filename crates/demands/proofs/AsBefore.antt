@@ -32,7 +32,7 @@ use Rattle.framing.specs.Comparing.{fitted_compared, compared_in, compared_of}
 use Rattle.framing.proofs.WantCases.{wanted_found}
 use Rattle.framing.specs.Wanted.{has_parameter, has_sample}
 use Rattle.demands.proofs.Unlapped.{base_read, base_place, base_placed, base_compared, plain_read, plain_place, plain_placed, none_overlaps, plain_compared}
-use Rattle.std.specs.Prelude.{Result, Ok, Err}
+use Rattle.std.specs.Prelude.{Ok, Err}
 use Rattle.framing.specs.Wanted.{Wanted}
 use Rattle.table.specs.Answers.{Asked}
 

@@ -11,7 +11,7 @@ use Rattle.demands.specs.Calls.{Calls}
 use Rattle.demands.specs.Demands.{Demands}
 use Rattle.demands.proofs.Ours.{ours}
 use Rattle.demands.proofs.Useless.{some_read_refused}
-use Rattle.std.specs.Prelude.{Result, Ok, Err, None}
+use Rattle.std.specs.Prelude.{Ok, Err, None}
 use Rattle.framing.specs.Placing.{Placed}
 
 -- a refused read is answered with 7 of 3 bits

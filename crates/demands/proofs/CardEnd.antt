@@ -38,7 +38,6 @@ use Rattle.demands.specs.Demands.{HasSample, answer_for, differs_for, agree_in, 
 use Rattle.demands.proofs.Cards.{card_number, Findable, findable}
 use Rattle.demands.proofs.Unbroken.{holds_first}
 use Rattle.std.specs.Prelude.{Ok}
-use Rattle.maker.specs.Made.{unmade}
 
 -- what a read of sample j of parameter q must answer, by the sheet and the card: its bits joined where they stand in the stream, and
 -- held against what stands there

@@ -37,7 +37,7 @@ use Rattle.demands.specs.Refusing.{first_broken, card_rules, bits_rules, has_par
 use Rattle.demands.specs.Demands.{FrameHanded}
 use Rattle.demands.proofs.Numbers.{found_any}
 use Rattle.demands.proofs.Unbroken.{holds_first}
-use Rattle.std.specs.Prelude.{Result, Ok, Err, Some, None}
+use Rattle.std.specs.Prelude.{Ok, Err, Some, None}
 
 -- ---- the tests of the rules are those of our definitions
 

@@ -13,7 +13,6 @@ use Rattle.ffi.specs.declared.sheets.OrbMade.{OrbMade}
 use Rattle.ffi.specs.declared.tables.OrbName.{OrbName}
 use Rattle.ffi.specs.declared.frames.OrbCompared.{OrbCompared}
 use Rattle.ffi.specs.declared.cards.OrbCarded.{OrbCarded}
-use Rattle.std.specs.Prelude.{Result, Ok, Err}
 use Rattle.framing.specs.Placing.{Placed}
 use Rattle.table.specs.Answers.{Checked}
 use Rattle.framing.specs.Comparing.{Compared}

@@ -11,9 +11,8 @@ use Rattle.grammar.specs.Says.{Says}
 use Rattle.grammar.proofs.Exactly.{one_saying}
 use Rattle.demands.specs.Calls.{Calls}
 use Rattle.demands.specs.Demands.{HasSample, answer_in, Demands}
-use Rattle.std.specs.Prelude.{Result, Ok, Err}
+use Rattle.std.specs.Prelude.{Ok}
 use Rattle.framing.specs.Reading.{Read}
-use Rattle.maker.specs.Made.{unmade}
 
 -- what a read of sample s of parameter p must answer, by what the sheet says
 abbrev pub read_by : Content → List ℕ → ℕ → ℕ → Read

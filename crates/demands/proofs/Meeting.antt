@@ -53,7 +53,7 @@ use Rattle.demands.proofs.Numbers.{check_number_lem, read_number_lem, place_numb
 use Rattle.demands.proofs.Cards.{card_number, bits_known, bits_unknown, card_unchanged, findable, frame_handed, front_meets, front_passes, found_findable}
 use Rattle.demands.proofs.Pages.{page_number, page_passing, uncounted, unwritten}
 use Rattle.demands.proofs.Parts.{unnamed_part, name_asked, mnemonic_asked, named_part, first_differing}
-use Rattle.std.specs.Prelude.{Result, Ok, Err}
+use Rattle.std.specs.Prelude.{Ok, Err}
 use Rattle.framing.specs.Wanted.{Wanted}
 
 -- ---- what a check that passes says

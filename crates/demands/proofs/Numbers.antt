@@ -6,7 +6,6 @@ use mathlib.Core.Path.{◌≡◌, refl, ap, ◌∙◌}
 use mathlib.Core.List.{List}
 use borrow.Author.Tests.{ltb-true, lt-ltb}
 use lib.Dec.{leb, ltb}
-use lib.IntN.{ℤ}
 use lib.ListN.{length}
 use Rattle.lay.specs.Below.{any, find}
 use Rattle.lay.proofs.Below.{any_some, any_made, find_least, find_holds}
@@ -20,13 +19,13 @@ use Rattle.model.specs.View.{view}
 use Rattle.table.specs.Answers.{check_of, check_number, numbered_of, mnemonic_is, called, asked_number, asked_mnemonic, asked_refusal}
 use Rattle.framing.specs.Fitting.{fit_of}
 use Rattle.framing.specs.Wanted.{has_parameter, has_sample, fitted, wanted_by, wanted_of}
-use Rattle.framing.specs.Reading.{raw_of, width_is, value_of, copies_agree, read_for, read_of, read_number, sample_read}
+use Rattle.framing.specs.Reading.{width_is, read_for, read_of, read_number}
 use Rattle.framing.specs.Placing.{laps_in, place_for, place_of, place_number}
 use Rattle.framing.specs.Comparing.{differs_in, compared_in, fitted_compared, compared_of, compared_number}
 use Rattle.table.specs.Reasons.{reason_number}
 use Rattle.table.specs.declared.reason.Reason.TheVariants.{Overlapped, NoTable, OtherCount, HighWord, NoParameter, NoSample}
 use Rattle.demands.specs.Refusing.{sample_of, components_of, as_many_words, first_broken, check_rules, read_rules, place_rules, compare_rules, name_rules, mnemonic_rules}
-use Rattle.std.specs.Prelude.{Result, Ok, Err, Some, None}
+use Rattle.std.specs.Prelude.{Ok, Err, Some, None}
 use Rattle.framing.specs.Wanted.{Wanted}
 
 -- the first number below n of which p holds is below n exactly where there is one

@@ -29,7 +29,7 @@ use Rattle.model.proofs.Statements.{accepted_writing}
 use Rattle.gather.specs.Ruling.{Ruling, Accepted, Refused, judge_of}
 use Rattle.grammar.specs.Says.{Says}
 use Rattle.grammar.proofs.Accepted.{accepted_says}
-use Rattle.maker.specs.Made.{made_of, left_of, unmade}
+use Rattle.maker.specs.Made.{made_of, left_of}
 use Rattle.bench.specs.Promises.{Makes, Pages, Names, NamesBy, Cards, FrameBits}
 use Rattle.table.specs.Answers.{NameOf, check_of, asked_number, asked_mnemonic, asked_refusal, name_answered, place_answered}
 use Rattle.framing.specs.Reading.{read_of, read_number}
@@ -50,7 +50,7 @@ use Rattle.demands.proofs.Cards.{card_number, findable, handed_alike, same_carde
 use Rattle.demands.proofs.Unbroken.{Readable, readable, long, placeable}
 use Rattle.demands.proofs.Meeting.{accepts_of, check_of_lem}
 use Rattle.demands.proofs.Ours.{ours, ours_meets}
-use Rattle.std.specs.Prelude.{Result, Ok, Err}
+use Rattle.std.specs.Prelude.{Ok, Err}
 use Rattle.table.specs.Answers.{Asked}
 
 -- frames of one length that join alike, and agree at every bit that no component names, are one

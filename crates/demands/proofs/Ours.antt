@@ -15,7 +15,6 @@ use Rattle.carding.specs.Answer.{carded_of, handed_of, bits_of_frame}
 use Rattle.demands.specs.Calls.{Calls, Kept}
 use Rattle.demands.specs.Demands.{Demands}
 use Rattle.demands.proofs.Meeting.{demands_met}
-use Rattle.std.specs.Prelude.{Result, Ok, Err}
 use Rattle.table.specs.Answers.{Asked}
 
 -- the table's own bytes from where the name stands

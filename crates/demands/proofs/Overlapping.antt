@@ -35,7 +35,7 @@ use Rattle.demands.specs.Calls.{Calls}
 use Rattle.demands.specs.Refusing.{sample_of, components_of, wholes_of, first_broken, place_rules}
 use Rattle.demands.specs.Demands.{HasSample, meaning, answer_in, Fitting, Demands}
 use Rattle.demands.proofs.Told.{raw_in, same_checked}
-use Rattle.std.specs.Prelude.{Result, Ok, Err}
+use Rattle.std.specs.Prelude.{Ok}
 
 -- ---- the Content, its table, and two frames
 

@@ -29,7 +29,7 @@ use Rattle.framing.specs.Fitting.{fit_of}
 use Rattle.demands.specs.Refusing.{first_broken, name_rules, mnemonic_rules}
 use Rattle.demands.specs.Demands.{EmptyPart, NamePart, FirstDiffering}
 use Rattle.demands.proofs.Numbers.{name_number_lem, mnemonic_number}
-use Rattle.std.specs.Prelude.{Result, Ok, Err, Some, None}
+use Rattle.std.specs.Prelude.{Ok, Err, Some, None}
 use Rattle.framing.specs.Fitting.{Fit}
 use Rattle.table.specs.Answers.{Asked}
 

@@ -27,7 +27,7 @@ use Rattle.demands.specs.Demands.{HasSample, Fitting, Demands}
 use Rattle.demands.proofs.Wall.{words, fuller, words_meet, fuller_meets, sync_listed, pitch_listed, wall_table, says_wall, fitting, there, plain, reads_pitch, reads_sync, pitch_room}
 use Rattle.demands.proofs.Told.{raw_in, value_in}
 use Rattle.demands.proofs.Useless.{eighteen}
-use Rattle.std.specs.Prelude.{Result, Ok, Err}
+use Rattle.std.specs.Prelude.{Ok}
 use Rattle.framing.specs.Reading.{Read}
 
 -- what a bench reads, of every sample of every frame that fits a table it accepts

@@ -18,7 +18,7 @@ use Rattle.framing.specs.declared.read.Reading.TheVariants as reading
 use Rattle.demands.specs.Refusing.{components_of}
 use Rattle.demands.specs.Demands.{answer_for, differs_for, agree_in, answer_in, FirstDiffering}
 use Rattle.table.specs.declared.reason.Reason.TheVariants.{NoTable}
-use Rattle.std.specs.Prelude.{Result, Ok, Err, Some, None}
+use Rattle.std.specs.Prelude.{Ok, Err, Some, None}
 use Rattle.framing.specs.Placing.{Placed}
 use Rattle.table.specs.Answers.{Checked}
 

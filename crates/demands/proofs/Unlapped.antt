@@ -30,7 +30,7 @@ use Rattle.framing.specs.Placing.{place_for, placed_for}
 use Rattle.framing.specs.Comparing.{Compared, differs_at, differs_in, compared_in}
 use Rattle.framing.specs.declared.read.Reading.TheVariants as reading
 use Rattle.table.specs.declared.reason.Reason.TheVariants.{TooLarge}
-use Rattle.std.specs.Prelude.{Result, Ok, Err, Some, None}
+use Rattle.std.specs.Prelude.{Ok, Err, Some, None}
 use Rattle.framing.specs.Placing.{Placed}
 use Rattle.framing.specs.Wanted.{Wanted}
 

@@ -38,7 +38,7 @@ use Rattle.demands.proofs.Told.{raw_in, answer_raw, one_first}
 use Rattle.demands.proofs.Unbroken.{readable}
 use Rattle.demands.proofs.Wall.{words, others, lower, words_meet, others_meet, lower_meets, sync_listed, pitch_listed, wall_table, made_wall, all_read, says_wall, fitting, there, plain, reads_pitch, pitch_room}
 use Rattle.table.specs.declared.reason.Reason.TheVariants.{NoTable}
-use Rattle.std.specs.Prelude.{Result, Ok, Err, Some}
+use Rattle.std.specs.Prelude.{Ok, Err, Some}
 use Rattle.maker.specs.Made.{Made, unmade}
 use Rattle.judge.specs.declared.walk.Rejected.{Rejected}
 

@@ -48,7 +48,7 @@ use Rattle.demands.specs.Demands.{Demands}
 use Rattle.demands.proofs.CardEnd.{CardAsSaid, card_as_said}
 use Rattle.demands.proofs.Told.{same_checked}
 use Rattle.demands.proofs.Wall.{words}
-use Rattle.std.specs.Prelude.{Result, Ok, Err}
+use Rattle.std.specs.Prelude.{Ok, Err}
 
 -- ---- the wall's words on a card, at its first bit and behind four zeros; no bits in the margins
 

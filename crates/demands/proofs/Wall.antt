@@ -26,7 +26,6 @@ use Rattle.demands.specs.Refusing.{components_of}
 use Rattle.demands.specs.Demands.{HasSample, meaning, Fitting, NoOverlap, Demands}
 use Rattle.demands.proofs.EndToEnd.{read_by, ReadAsSaid, read_as_said}
 use Rattle.std.specs.Prelude.{Ok}
-use Rattle.maker.specs.Made.{unmade}
 
 -- ---- 01's frame, one with another first word, one with another second part of Pitch, one with a bit that Pitch does not name
 

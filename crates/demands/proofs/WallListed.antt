@@ -17,7 +17,7 @@ use Rattle.table.specs.Reasons.{reason_number}
 use Rattle.listed.specs.Decimals.{decimal_text, value_text}
 use Rattle.listed.specs.Lines.{row_text}
 use Rattle.listed.specs.Listing.{heading_text, sample_row, parameter_rows, refused_text, fit_number, words_of}
-use Rattle.std.specs.Prelude.{Result, Ok, Err}
+use Rattle.std.specs.Prelude.{Err}
 
 -- 583, 5, 0 and 6 in two bytes each
 abbrev file : List ℕ

@@ -1,5 +1,5 @@
 -- The three demands, of any bench.
-use Rattle.std.specs.Prelude.{ℕ, ◌+◌, ◌-◌, ◌^◌, ◌≤◌, ◌<◌, Bool, true, false, cond, ◌≡◌, List, [], ◌⊎◌, ◌↔◌, ℤ, pos, length, get_or, take, drop, Some, None, Result, Ok, Err}
+use Rattle.std.specs.Prelude.{ℕ, ◌+◌, ◌-◌, ◌^◌, ◌≤◌, ◌<◌, Bool, true, false, cond, ◌≡◌, List, [], ◌⊎◌, ◌↔◌, ℤ, pos, length, get_or, take, drop, Some, None, Ok}
 use Rattle.std.specs.Borrow.{Bor}
 use Rattle.bits.specs.Sign.{signed}
 use Rattle.lay.specs.Bytes.{AreBytes}

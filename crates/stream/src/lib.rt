@@ -31,13 +31,13 @@ fn window_at(stream: &[u8], a: usize) -> u64
 fn byte_of(k: usize) -> usize
     ensures { result ≡ k / 8 }
 {
-    k / 8
+    bits::bits_above(k as u64, 3) as usize
 }
 
 fn bit_of(k: usize) -> u32
     ensures { result ≡ k % 8 }
 {
-    (k % 8) as u32
+    bits::low_bits_of(k as u64, 3) as u32
 }
 
 // The number of n bits that stands in the stream from bit k on: 24 bits hold any 16 of them from any bit of a byte on.
