@@ -279,3 +279,7 @@ module _ {b : List ℕ} (h : Formed b) where
 
   pub plain_component_lem : (k : ℕ) → plain (wide_of (slots_of (layout_in b) component_part) k) ≡ true
   plain_component_lem = wide_plain (slots_of (layout_in b) component_part) s.plain_component
+
+-- room for an item, and its width, as reading one asks
+pub room : {A B : Type 0} → A × B → record { wide_in_bounds : A; wide_value : B }
+room p = record { wide_in_bounds = p.0; wide_value = p.1 }

@@ -1,5 +1,4 @@
-use mathlib.Core.Path.{refl, ap}
-use mathlib.Core.Bool.{not}
+use mathlib.Core.Path.{refl}
 use native.Mathlib.Omega.{arith}
 use Rattle.lay.proofs.Passing.{passed_none, passed_more, failed, passed_all}
 use Rattle.model.proofs.Laying.{parameter_here}

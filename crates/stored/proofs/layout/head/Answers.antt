@@ -12,12 +12,12 @@ returns-then-not-form_ok c = unopened (refuse _ (λ h. differ (sym c.form_ok.ens
 pub form_of-form-requires : goal.form_of-form-requires
 form_of-form-requires c = (formed _ (sym c.form_ok.ensures ∙ c.if-not-form_ok.false)).long
 
-pub counts_of-counts-requires : goal.counts_of-counts-requires
-counts_of-counts-requires c = (formed _ (sym c.form_ok.ensures ∙ c.if-not-form_ok.false), c.form_of-form.ensures)
+pub invariant_of-formed : goal.invariant_of-formed
+invariant_of-formed c = record { formed = formed _ (sym c.form_ok.ensures ∙ c.if-not-form_ok.false); form_is = c.form_of-form.ensures }
 
 pub header_ok-requires : goal.header_ok-requires
 header_ok-requires c =
-    record { formed = (formed _ (sym c.form_ok.ensures ∙ c.if-not-form_ok.false), c.form_of-form.ensures); counts_of = c.counts_of-counts.ensures }
+    record { counts_of = c.counts_of-counts.ensures }
 
 pub returns-then-not-header_ok : goal.returns-then-not-header_ok
 returns-then-not-header_ok c = unopened (refuse _ (λ h. differ (sym c.header_ok.ensures ∙ c.if-not-header_ok.true) (head_header _ h)))
@@ -31,7 +31,7 @@ starts_of-starts-requires c =
 pub offsets_ok-requires : goal.offsets_ok-requires
 offsets_ok-requires c =
     let f = formed _ (sym c.form_ok.ensures ∙ c.if-not-form_ok.false) in
-    record { formed = (f, c.form_of-form.ensures); starts_of = starts_here c.counts_of-counts.ensures f c.form_of-form.ensures c.starts_of-starts.ensures }
+    record { starts_of = starts_here c.counts_of-counts.ensures f c.form_of-form.ensures c.starts_of-starts.ensures }
 
 pub returns-then-not-offsets_ok : goal.returns-then-not-offsets_ok
 returns-then-not-offsets_ok c = unopened (refuse _ (λ h. differ (sym c.offsets_ok.ensures ∙ c.if-not-offsets_ok.true) (head_offsets _ h)))

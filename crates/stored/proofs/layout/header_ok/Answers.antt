@@ -7,14 +7,11 @@ use Rattle.model.proofs.Laying.{header, header_made}
 use Rattle.stored.proofs.Reading.{known_here, bounds_are}
 use Rattle.stored.proofs.layout.header_ok.Goals as goal
 
-pub header_of-h-requires : goal.header_of-h-requires
-header_of-h-requires c = c.requires.formed
-
 pub bounds_of-most-requires : goal.bounds_of-most-requires
-bounds_of-most-requires c = known_here c.requires.formed.0 c.requires.formed.1
+bounds_of-most-requires c = known_here c.args.b.now.formed c.args.b.now.form_is
 
-pub returns-then-h-t : goal.returns-then-h-t
-returns-then-h-t c = refuse _ (λ h. let r = header _ h in omega (arith, r, c.header_of-h.ensures, c.requires.counts_of, c.if-h-t.true))
+pub returns-then-h-b : goal.returns-then-h-b
+returns-then-h-b c = refuse _ (λ h. let r = header _ h in omega (arith, r, c.header_of-h.ensures, c.requires.counts_of, c.if-h-b.true))
 
 pub returns-then-h-gt1 : goal.returns-then-h-gt1
 returns-then-h-gt1 c = refuse _ (λ h. let r = header _ h in omega (arith, r, c.header_of-h.ensures, c.requires.counts_of, c.if-h-gt1.true))
@@ -26,26 +23,26 @@ pub returns-then-n-lt1 : goal.returns-then-n-lt1
 returns-then-n-lt1 c = refuse _ (λ h. let r = header _ h in omega (arith, r, c.header_of-h.ensures, c.requires.counts_of, c.if-n-lt1.true))
 
 pub returns-then-most-n : goal.returns-then-most-n
-returns-then-most-n c = let m = ap (λ (l : Limits). l.subframes) (bounds_are _ c.requires.formed.1 c.bounds_of-most.ensures) in refuse _ (λ h. let r = header _ h in omega (arith, r, m, c.header_of-h.ensures, c.requires.counts_of, c.if-most-n.true))
+returns-then-most-n c = let m = ap (λ (l : Limits). l.subframes) (bounds_are _ c.args.b.now.form_is c.bounds_of-most.ensures) in refuse _ (λ h. let r = header _ h in omega (arith, r, m, c.header_of-h.ensures, c.requires.counts_of, c.if-most-n.true))
 
 pub returns-then-most-n-2 : goal.returns-then-most-n-2
-returns-then-most-n-2 c = let m = ap (λ (l : Limits). l.parameters) (bounds_are _ c.requires.formed.1 c.bounds_of-most.ensures) in refuse _ (λ h. let r = header _ h in omega (arith, r, m, c.header_of-h.ensures, c.requires.counts_of, c.if-most-n-2.true))
+returns-then-most-n-2 c = let m = ap (λ (l : Limits). l.parameters) (bounds_are _ c.args.b.now.form_is c.bounds_of-most.ensures) in refuse _ (λ h. let r = header _ h in omega (arith, r, m, c.header_of-h.ensures, c.requires.counts_of, c.if-most-n-2.true))
 
 pub returns-then-most-n-3 : goal.returns-then-most-n-3
-returns-then-most-n-3 c = let m = ap (λ (l : Limits). l.samples) (bounds_are _ c.requires.formed.1 c.bounds_of-most.ensures) in refuse _ (λ h. let r = header _ h in omega (arith, r, m, c.header_of-h.ensures, c.requires.counts_of, c.if-most-n-3.true))
+returns-then-most-n-3 c = let m = ap (λ (l : Limits). l.samples) (bounds_are _ c.args.b.now.form_is c.bounds_of-most.ensures) in refuse _ (λ h. let r = header _ h in omega (arith, r, m, c.header_of-h.ensures, c.requires.counts_of, c.if-most-n-3.true))
 
 pub returns-then-most-n-4 : goal.returns-then-most-n-4
-returns-then-most-n-4 c = let m = ap (λ (l : Limits). l.components) (bounds_are _ c.requires.formed.1 c.bounds_of-most.ensures) in refuse _ (λ h. let r = header _ h in omega (arith, r, m, c.header_of-h.ensures, c.requires.counts_of, c.if-most-n-4.true))
+returns-then-most-n-4 c = let m = ap (λ (l : Limits). l.components) (bounds_are _ c.args.b.now.form_is c.bounds_of-most.ensures) in refuse _ (λ h. let r = header _ h in omega (arith, r, m, c.header_of-h.ensures, c.requires.counts_of, c.if-most-n-4.true))
 
 pub returns : goal.returns
 returns c =
-    let q = bounds_are _ c.requires.formed.1 c.bounds_of-most.ensures in
+    let q = bounds_are _ c.args.b.now.form_is c.bounds_of-most.ensures in
     let e = c.header_of-h.ensures in
     let n = c.requires.counts_of in
     sym
     (header_made _
     (record {
-      whole = omega (arith, e.total_is, c.if-h-t.false);
+      whole = omega (arith, e.total_is, c.if-h-b.false);
       flags = omega (arith, e.flags_is, c.if-h-gt1.false);
       zeros = omega (arith, e.zeros_is, c.if-h-ne0.false);
       some = omega (arith, n.subframes_is, c.if-n-lt1.false);

@@ -1,8 +1,6 @@
-use mathlib.Core.Path.{◌≡◌, refl, sym, ap, ◌∙◌}
-use mathlib.Core.Bool.{Bool, true, false, not}
+use mathlib.Core.Path.{refl, sym, ◌∙◌}
 use borrow.Author.Tests.{eq-eqb, ne_eqb}
 use Rattle.lay.proofs.Passing.{passed_none, passed_more, failed, passed_all}
-use Rattle.lay.proofs.Tests.{holds_not}
 use Rattle.model.specs.Accepts.{zero_bytes_ok}
 use Rattle.stored.proofs.layout.zeros_ok.Goals as goal
 

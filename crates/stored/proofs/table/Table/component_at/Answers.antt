@@ -4,7 +4,7 @@ use native.Mathlib.Omega.{arith}
 use Rattle.model.specs.Items as item
 use Rattle.stored.specs.Shapes.{component_shape}
 use Rattle.stored.specs.declared.forms.ComponentShape.{ComponentShape}
-use Rattle.stored.proofs.Reading.{known_here, shape_here, component_small, component_here, item_place, plain_component_lem, item_number}
+use Rattle.stored.proofs.Reading.{known_here, shape_here, component_small, component_here, item_place, plain_component_lem, item_number, room}
 use Rattle.stored.proofs.table.Table.component_at.Goals as goal
 
 pub component_shape-s-requires : goal.component_shape-s-requires
@@ -23,29 +23,34 @@ overflow_add-at c =
     omega (arith, component_small z _ c.requires.k_bound q)
 
 pub item_at-subframe-requires : goal.item_at-subframe-requires
-item_at-subframe-requires c = let p = (let z = c.args.self.now.opened_of in
+item_at-subframe-requires c =
+    let z = c.args.self.now.opened_of in
     let q = shape_here component_shape z c.component_shape-s.ensures in
-    item_place (component_here z _ c.requires.k_bound q) item.home _ (ap (λ (s : ComponentShape). s.subframe) q) (plain_component_lem z.sized.formed item.home)) in record { wide_in_bounds = p.0; wide_value = p.1 }
+    room (item_place (component_here z _ c.requires.k_bound q) item.home _ (ap (λ (s : ComponentShape). s.subframe) q) (plain_component_lem z.sized.formed item.home))
 
 pub item_at-word-requires : goal.item_at-word-requires
-item_at-word-requires c = let p = (let z = c.args.self.now.opened_of in
+item_at-word-requires c =
+    let z = c.args.self.now.opened_of in
     let q = shape_here component_shape z c.component_shape-s.ensures in
-    item_place (component_here z _ c.requires.k_bound q) item.word _ (ap (λ (s : ComponentShape). s.word) q) (plain_component_lem z.sized.formed item.word)) in record { wide_in_bounds = p.0; wide_value = p.1 }
+    room (item_place (component_here z _ c.requires.k_bound q) item.word _ (ap (λ (s : ComponentShape). s.word) q) (plain_component_lem z.sized.formed item.word))
 
 pub item_at-low-requires : goal.item_at-low-requires
-item_at-low-requires c = let p = (let z = c.args.self.now.opened_of in
+item_at-low-requires c =
+    let z = c.args.self.now.opened_of in
     let q = shape_here component_shape z c.component_shape-s.ensures in
-    item_place (component_here z _ c.requires.k_bound q) item.low _ (ap (λ (s : ComponentShape). s.low) q) (plain_component_lem z.sized.formed item.low)) in record { wide_in_bounds = p.0; wide_value = p.1 }
+    room (item_place (component_here z _ c.requires.k_bound q) item.low _ (ap (λ (s : ComponentShape). s.low) q) (plain_component_lem z.sized.formed item.low))
 
 pub item_at-high-requires : goal.item_at-high-requires
-item_at-high-requires c = let p = (let z = c.args.self.now.opened_of in
+item_at-high-requires c =
+    let z = c.args.self.now.opened_of in
     let q = shape_here component_shape z c.component_shape-s.ensures in
-    item_place (component_here z _ c.requires.k_bound q) item.high _ (ap (λ (s : ComponentShape). s.high) q) (plain_component_lem z.sized.formed item.high)) in record { wide_in_bounds = p.0; wide_value = p.1 }
+    room (item_place (component_here z _ c.requires.k_bound q) item.high _ (ap (λ (s : ComponentShape). s.high) q) (plain_component_lem z.sized.formed item.high))
 
 pub item_at-overlap-requires : goal.item_at-overlap-requires
-item_at-overlap-requires c = let p = (let z = c.args.self.now.opened_of in
+item_at-overlap-requires c =
+    let z = c.args.self.now.opened_of in
     let q = shape_here component_shape z c.component_shape-s.ensures in
-    item_place (component_here z _ c.requires.k_bound q) item.overlap _ (ap (λ (s : ComponentShape). s.overlap) q) (plain_component_lem z.sized.formed item.overlap)) in record { wide_in_bounds = p.0; wide_value = p.1 }
+    room (item_place (component_here z _ c.requires.k_bound q) item.overlap _ (ap (λ (s : ComponentShape). s.overlap) q) (plain_component_lem z.sized.formed item.overlap))
 
 pub returns : goal.returns
 returns c =

@@ -4,7 +4,7 @@ use native.Mathlib.Omega.{arith}
 use Rattle.model.specs.Items as item
 use Rattle.stored.specs.Shapes.{parameter_shape}
 use Rattle.stored.specs.declared.forms.ParameterShape.{ParameterShape}
-use Rattle.stored.proofs.Reading.{known_here, shape_here, parameter_small, parameter_here, item_place, plain_parameter_lem, item_number}
+use Rattle.stored.proofs.Reading.{known_here, shape_here, parameter_small, parameter_here, item_place, plain_parameter_lem, item_number, room}
 use Rattle.stored.proofs.table.Table.parameter_at.Goals as goal
 
 pub parameter_shape-s-requires : goal.parameter_shape-s-requires
@@ -23,44 +23,52 @@ overflow_add-at c =
     omega (arith, parameter_small z _ c.requires.i_bound q)
 
 pub item_at-name-requires : goal.item_at-name-requires
-item_at-name-requires c = let p = (let z = c.args.self.now.opened_of in
+item_at-name-requires c =
+    let z = c.args.self.now.opened_of in
     let q = shape_here parameter_shape z c.parameter_shape-s.ensures in
-    item_place (parameter_here z _ c.requires.i_bound q) item.name_length _ (ap (λ (s : ParameterShape). s.name) q) (plain_parameter_lem z.sized.formed item.name_length)) in record { wide_in_bounds = p.0; wide_value = p.1 }
+    room (item_place (parameter_here z _ c.requires.i_bound q) item.name_length _ (ap (λ (s : ParameterShape). s.name) q) (plain_parameter_lem z.sized.formed item.name_length))
 
 pub item_at-mnemonic-requires : goal.item_at-mnemonic-requires
-item_at-mnemonic-requires c = let p = (let z = c.args.self.now.opened_of in
+item_at-mnemonic-requires c =
+    let z = c.args.self.now.opened_of in
     let q = shape_here parameter_shape z c.parameter_shape-s.ensures in
-    item_place (parameter_here z _ c.requires.i_bound q) item.mnemonic_length _ (ap (λ (s : ParameterShape). s.mnemonic) q) (plain_parameter_lem z.sized.formed item.mnemonic_length)) in record { wide_in_bounds = p.0; wide_value = p.1 }
+    room (item_place (parameter_here z _ c.requires.i_bound q) item.mnemonic_length _ (ap (λ (s : ParameterShape). s.mnemonic) q) (plain_parameter_lem z.sized.formed item.mnemonic_length))
 
 pub item_at-identification-requires : goal.item_at-identification-requires
-item_at-identification-requires c = let p = (let z = c.args.self.now.opened_of in
+item_at-identification-requires c =
+    let z = c.args.self.now.opened_of in
     let q = shape_here parameter_shape z c.parameter_shape-s.ensures in
-    item_place (parameter_here z _ c.requires.i_bound q) item.identification_length _ (ap (λ (s : ParameterShape). s.identification) q) (plain_parameter_lem z.sized.formed item.identification_length)) in record { wide_in_bounds = p.0; wide_value = p.1 }
+    room (item_place (parameter_here z _ c.requires.i_bound q) item.identification_length _ (ap (λ (s : ParameterShape). s.identification) q) (plain_parameter_lem z.sized.formed item.identification_length))
 
 pub item_at-flags-requires : goal.item_at-flags-requires
-item_at-flags-requires c = let p = (let z = c.args.self.now.opened_of in
+item_at-flags-requires c =
+    let z = c.args.self.now.opened_of in
     let q = shape_here parameter_shape z c.parameter_shape-s.ensures in
-    item_place (parameter_here z _ c.requires.i_bound q) item.parameter_flags _ (ap (λ (s : ParameterShape). s.flags) q) (plain_parameter_lem z.sized.formed item.parameter_flags)) in record { wide_in_bounds = p.0; wide_value = p.1 }
+    room (item_place (parameter_here z _ c.requires.i_bound q) item.parameter_flags _ (ap (λ (s : ParameterShape). s.flags) q) (plain_parameter_lem z.sized.formed item.parameter_flags))
 
 pub item_at-start-requires : goal.item_at-start-requires
-item_at-start-requires c = let p = (let z = c.args.self.now.opened_of in
+item_at-start-requires c =
+    let z = c.args.self.now.opened_of in
     let q = shape_here parameter_shape z c.parameter_shape-s.ensures in
-    item_place (parameter_here z _ c.requires.i_bound q) item.text_start _ (ap (λ (s : ParameterShape). s.start) q) (plain_parameter_lem z.sized.formed item.text_start)) in record { wide_in_bounds = p.0; wide_value = p.1 }
+    room (item_place (parameter_here z _ c.requires.i_bound q) item.text_start _ (ap (λ (s : ParameterShape). s.start) q) (plain_parameter_lem z.sized.formed item.text_start))
 
 pub item_at-first-requires : goal.item_at-first-requires
-item_at-first-requires c = let p = (let z = c.args.self.now.opened_of in
+item_at-first-requires c =
+    let z = c.args.self.now.opened_of in
     let q = shape_here parameter_shape z c.parameter_shape-s.ensures in
-    item_place (parameter_here z _ c.requires.i_bound q) item.first_sample _ (ap (λ (s : ParameterShape). s.first) q) (plain_parameter_lem z.sized.formed item.first_sample)) in record { wide_in_bounds = p.0; wide_value = p.1 }
+    room (item_place (parameter_here z _ c.requires.i_bound q) item.first_sample _ (ap (λ (s : ParameterShape). s.first) q) (plain_parameter_lem z.sized.formed item.first_sample))
 
 pub item_at-count-requires : goal.item_at-count-requires
-item_at-count-requires c = let p = (let z = c.args.self.now.opened_of in
+item_at-count-requires c =
+    let z = c.args.self.now.opened_of in
     let q = shape_here parameter_shape z c.parameter_shape-s.ensures in
-    item_place (parameter_here z _ c.requires.i_bound q) item.sample_count _ (ap (λ (s : ParameterShape). s.count) q) (plain_parameter_lem z.sized.formed item.sample_count)) in record { wide_in_bounds = p.0; wide_value = p.1 }
+    room (item_place (parameter_here z _ c.requires.i_bound q) item.sample_count _ (ap (λ (s : ParameterShape). s.count) q) (plain_parameter_lem z.sized.formed item.sample_count))
 
 pub item_at-value-requires : goal.item_at-value-requires
-item_at-value-requires c = let p = (let z = c.args.self.now.opened_of in
+item_at-value-requires c =
+    let z = c.args.self.now.opened_of in
     let q = shape_here parameter_shape z c.parameter_shape-s.ensures in
-    item_place (parameter_here z _ c.requires.i_bound q) item.value _ (ap (λ (s : ParameterShape). s.value) q) (plain_parameter_lem z.sized.formed item.value)) in record { wide_in_bounds = p.0; wide_value = p.1 }
+    room (item_place (parameter_here z _ c.requires.i_bound q) item.value _ (ap (λ (s : ParameterShape). s.value) q) (plain_parameter_lem z.sized.formed item.value))
 
 pub returns : goal.returns
 returns c =

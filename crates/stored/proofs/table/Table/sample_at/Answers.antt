@@ -4,7 +4,7 @@ use native.Mathlib.Omega.{arith}
 use Rattle.model.specs.Items as item
 use Rattle.stored.specs.Shapes.{sample_shape}
 use Rattle.stored.specs.declared.forms.SampleShape.{SampleShape}
-use Rattle.stored.proofs.Reading.{known_here, shape_here, sample_small, sample_here, item_place, plain_sample_lem, item_number}
+use Rattle.stored.proofs.Reading.{known_here, shape_here, sample_small, sample_here, item_place, plain_sample_lem, item_number, room}
 use Rattle.stored.proofs.table.Table.sample_at.Goals as goal
 
 pub sample_shape-s-requires : goal.sample_shape-s-requires
@@ -23,19 +23,22 @@ overflow_add-at c =
     omega (arith, sample_small z _ c.requires.j_bound q)
 
 pub item_at-time-requires : goal.item_at-time-requires
-item_at-time-requires c = let p = (let z = c.args.self.now.opened_of in
+item_at-time-requires c =
+    let z = c.args.self.now.opened_of in
     let q = shape_here sample_shape z c.sample_shape-s.ensures in
-    item_place (sample_here z _ c.requires.j_bound q) item.time _ (ap (λ (s : SampleShape). s.time) q) (plain_sample_lem z.sized.formed item.time)) in record { wide_in_bounds = p.0; wide_value = p.1 }
+    room (item_place (sample_here z _ c.requires.j_bound q) item.time _ (ap (λ (s : SampleShape). s.time) q) (plain_sample_lem z.sized.formed item.time))
 
 pub item_at-first-requires : goal.item_at-first-requires
-item_at-first-requires c = let p = (let z = c.args.self.now.opened_of in
+item_at-first-requires c =
+    let z = c.args.self.now.opened_of in
     let q = shape_here sample_shape z c.sample_shape-s.ensures in
-    item_place (sample_here z _ c.requires.j_bound q) item.first_component _ (ap (λ (s : SampleShape). s.first) q) (plain_sample_lem z.sized.formed item.first_component)) in record { wide_in_bounds = p.0; wide_value = p.1 }
+    room (item_place (sample_here z _ c.requires.j_bound q) item.first_component _ (ap (λ (s : SampleShape). s.first) q) (plain_sample_lem z.sized.formed item.first_component))
 
 pub item_at-count-requires : goal.item_at-count-requires
-item_at-count-requires c = let p = (let z = c.args.self.now.opened_of in
+item_at-count-requires c =
+    let z = c.args.self.now.opened_of in
     let q = shape_here sample_shape z c.sample_shape-s.ensures in
-    item_place (sample_here z _ c.requires.j_bound q) item.component_count _ (ap (λ (s : SampleShape). s.count) q) (plain_sample_lem z.sized.formed item.component_count)) in record { wide_in_bounds = p.0; wide_value = p.1 }
+    room (item_place (sample_here z _ c.requires.j_bound q) item.component_count _ (ap (λ (s : SampleShape). s.count) q) (plain_sample_lem z.sized.formed item.component_count))
 
 pub returns : goal.returns
 returns c =

@@ -4,7 +4,7 @@ use native.Mathlib.Omega.{arith}
 use Rattle.model.specs.Items as item
 use Rattle.stored.specs.Shapes.{subframe_shape}
 use Rattle.stored.specs.declared.forms.SubframeShape.{SubframeShape}
-use Rattle.stored.proofs.Reading.{known_here, shape_here, subframe_small, subframe_here, item_place, long_place, plain_subframe_lem, long_numerator_lem, item_number}
+use Rattle.stored.proofs.Reading.{known_here, shape_here, subframe_small, subframe_here, item_place, long_place, plain_subframe_lem, long_numerator_lem, item_number, room}
 use Rattle.stored.proofs.table.Table.subframe_at.Goals as goal
 
 pub subframe_shape-s-requires : goal.subframe_shape-s-requires
@@ -23,34 +23,40 @@ overflow_add-at c =
     omega (arith, subframe_small z _ c.requires.i_bound q)
 
 pub item_at-bits-requires : goal.item_at-bits-requires
-item_at-bits-requires c = let p = (let z = c.args.self.now.opened_of in
+item_at-bits-requires c =
+    let z = c.args.self.now.opened_of in
     let q = shape_here subframe_shape z c.subframe_shape-s.ensures in
-    item_place (subframe_here z _ c.requires.i_bound q) item.bits _ (ap (λ (s : SubframeShape). s.bits) q) (plain_subframe_lem z.sized.formed item.bits (omega arith) (λ e. absurd (omega (arith, e))))) in record { wide_in_bounds = p.0; wide_value = p.1 }
+    room (item_place (subframe_here z _ c.requires.i_bound q) item.bits _ (ap (λ (s : SubframeShape). s.bits) q) (plain_subframe_lem z.sized.formed item.bits (omega arith) (λ e. absurd (omega (arith, e)))))
 
 pub item_at-words-requires : goal.item_at-words-requires
-item_at-words-requires c = let p = (let z = c.args.self.now.opened_of in
+item_at-words-requires c =
+    let z = c.args.self.now.opened_of in
     let q = shape_here subframe_shape z c.subframe_shape-s.ensures in
-    item_place (subframe_here z _ c.requires.i_bound q) item.words _ (ap (λ (s : SubframeShape). s.words) q) (plain_subframe_lem z.sized.formed item.words (omega arith) (λ e. absurd (omega (arith, e))))) in record { wide_in_bounds = p.0; wide_value = p.1 }
+    room (item_place (subframe_here z _ c.requires.i_bound q) item.words _ (ap (λ (s : SubframeShape). s.words) q) (plain_subframe_lem z.sized.formed item.words (omega arith) (λ e. absurd (omega (arith, e)))))
 
 pub item_at-leading-requires : goal.item_at-leading-requires
-item_at-leading-requires c = let p = (let z = c.args.self.now.opened_of in
+item_at-leading-requires c =
+    let z = c.args.self.now.opened_of in
     let q = shape_here subframe_shape z c.subframe_shape-s.ensures in
-    item_place (subframe_here z _ c.requires.i_bound q) item.leading _ (ap (λ (s : SubframeShape). s.leading) q) (plain_subframe_lem z.sized.formed item.leading (omega arith) (λ e. absurd (omega (arith, e))))) in record { wide_in_bounds = p.0; wide_value = p.1 }
+    room (item_place (subframe_here z _ c.requires.i_bound q) item.leading _ (ap (λ (s : SubframeShape). s.leading) q) (plain_subframe_lem z.sized.formed item.leading (omega arith) (λ e. absurd (omega (arith, e)))))
 
 pub item_at-trailing-requires : goal.item_at-trailing-requires
-item_at-trailing-requires c = let p = (let z = c.args.self.now.opened_of in
+item_at-trailing-requires c =
+    let z = c.args.self.now.opened_of in
     let q = shape_here subframe_shape z c.subframe_shape-s.ensures in
-    item_place (subframe_here z _ c.requires.i_bound q) item.trailing _ (ap (λ (s : SubframeShape). s.trailing) q) (plain_subframe_lem z.sized.formed item.trailing (omega arith) (λ e. absurd (omega (arith, e))))) in record { wide_in_bounds = p.0; wide_value = p.1 }
+    room (item_place (subframe_here z _ c.requires.i_bound q) item.trailing _ (ap (λ (s : SubframeShape). s.trailing) q) (plain_subframe_lem z.sized.formed item.trailing (omega arith) (λ e. absurd (omega (arith, e)))))
 
 pub long_at-numerator-requires : goal.long_at-numerator-requires
-long_at-numerator-requires c = let p = (let z = c.args.self.now.opened_of in
+long_at-numerator-requires c =
+    let z = c.args.self.now.opened_of in
     let q = shape_here subframe_shape z c.subframe_shape-s.ensures in
-    long_place (subframe_here z _ c.requires.i_bound q) item.numerator _ (ap (λ (s : SubframeShape). s.numerator) q) (long_numerator_lem z.sized.formed)) in record { wide_in_bounds = p.0; wide_value = p.1 }
+    room (long_place (subframe_here z _ c.requires.i_bound q) item.numerator _ (ap (λ (s : SubframeShape). s.numerator) q) (long_numerator_lem z.sized.formed))
 
 pub item_at-denominator-requires : goal.item_at-denominator-requires
-item_at-denominator-requires c = let p = (let z = c.args.self.now.opened_of in
+item_at-denominator-requires c =
+    let z = c.args.self.now.opened_of in
     let q = shape_here subframe_shape z c.subframe_shape-s.ensures in
-    item_place (subframe_here z _ c.requires.i_bound q) item.denominator _ (ap (λ (s : SubframeShape). s.denominator) q) (plain_subframe_lem z.sized.formed item.denominator (omega arith) (λ e. absurd (omega (arith, e))))) in record { wide_in_bounds = p.0; wide_value = p.1 }
+    room (item_place (subframe_here z _ c.requires.i_bound q) item.denominator _ (ap (λ (s : SubframeShape). s.denominator) q) (plain_subframe_lem z.sized.formed item.denominator (omega arith) (λ e. absurd (omega (arith, e)))))
 
 pub returns : goal.returns
 returns c =
