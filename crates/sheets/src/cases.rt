@@ -5,33 +5,40 @@ use crate::lent::{UNTOUCHED, kept};
 use intake::list::each_line;
 use intake::load;
 use intake::say::text;
-use maker::make::{Made, make};
-use spell::answers::Number;
+use judge::walk::Rejected;
+use maker::make::make;
 use spell::integers::integer;
 use text::part::{past_first, up_to};
 use text::refusal::refusal_number;
 
+// The number of what a sheet is refused for, and the line.
+pub fn rejected_text(rt: &HostRuntime, rejected: Rejected) {
+    let number = refusal_number(rejected.refusal);
+    let line = rejected.line;
+    let _ = print!(rt; "{number} at {line}");
+}
+
 // What becomes of a sheet, and whether a lent byte that must stay has changed.
 fn answered(rt: &HostRuntime, sheet: &[u8], lent: &mut [u8]) {
     lent.fill(UNTOUCHED);
-    match make(sheet, lent) {
-        Made::Length(n) => {
+    let made = match make(sheet, lent) {
+        Ok(n) => {
             let _ = print!(rt; "made {n}");
-            kept(rt, lent, n);
+            n
         }
-        Made::Refused { refusal, line } => {
-            let number = refusal_number(refusal);
-            let _ = print!(rt; "{number} at {line}");
-            kept(rt, lent, 0);
+        Err(rejected) => {
+            rejected_text(rt, rejected);
+            0
         }
-    }
+    };
+    kept(rt, lent, made);
 }
 
 // The number that the line goes on with; 0 where there is none, which shows in the output.
 fn lent_of(rt: &HostRuntime, line: &[u8]) -> usize {
     match integer(up_to(line, 32), 6, 0, 200000) {
-        Number::Value(n) => n as usize,
-        Number::Refused(_) => {
+        Ok(n) => n as usize,
+        Err(_) => {
             text(rt, b"no lent length ");
             0
         }

@@ -1,19 +1,19 @@
 // A comparison names the lowest subframe that differs, in whatever order the sheet lists the identifiers.
+use crate::cases::rejected_text;
 use frame::compare::{compare, compare_number};
-use framing::compare::Compared;
 use intake::load;
 use intake::say::text;
-use maker::make::{Made, make};
+use maker::make::make;
+use table::reason::Reason;
 use text::part::front;
-use text::refusal::refusal_number;
 
 // A refusal's number, and the subframe that it names.
-fn compared_text(rt: &HostRuntime, a: Compared) {
-    let number = compare_number(a);
-    let _ = match a {
-        Compared::Passes => print!(rt; "passes"),
-        Compared::Differs(subframe) => print!(rt; "{number} at {subframe}"),
-        Compared::Refused(_) => print!(rt; "{number} at 0"),
+fn compared_text(rt: &HostRuntime, compared: Result<Option<usize>, Reason>) {
+    let number = compare_number(compared);
+    let _ = match compared {
+        Ok(None) => print!(rt; "passes"),
+        Ok(Some(subframe)) => print!(rt; "{number} at {subframe}"),
+        Err(_) => print!(rt; "{number} at 0"),
     };
 }
 
@@ -37,14 +37,14 @@ pub fn compared(rt: &HostRuntime, sheet: &mut [u8], table: &mut [u8]) {
     let file = b"identifiers-second-subframe-first.frcs";
     let n = load(rt, file, sheet);
     match make(&sheet[..n], table) {
-        Made::Length(k) => {
+        Ok(k) => {
             if k <= table.len() {
                 compare_lines(rt, front(table, k), file);
             }
         }
-        Made::Refused { refusal, line } => {
-            let number = refusal_number(refusal);
-            let _ = println!(rt; "{number} at {line}");
+        Err(rejected) => {
+            rejected_text(rt, rejected);
+            text(rt, b"\n");
         }
     }
 }

@@ -1,7 +1,7 @@
 // All samples of a frame by a table that is opened once: what speed/ compares with plain C.
 #![tactic(auto)]
 
-ghost use Rattle.std.specs.Prelude.{◌<◌};
+ghost use Rattle.std.specs.Prelude.{◌≤◌, ◌<◌, length};
 ghost use Rattle.model.specs.Stored.{parameters_in, sample_count_in};
 
 use frame::fit::fit_of;
@@ -17,33 +17,33 @@ fn value_in(f: &Frame, i: usize, j: usize) -> i64
     requires j_bound { j < sample_count_in f.now.ruled.now.declared.table.bytes.now i }
 {
     match sample_in(f, i, j) {
-        Reading::Sample { value, .. } => value,
-        Reading::OverlapDiffers { value, .. } => value,
+        Reading::Sample { value, .. } | Reading::OverlapDiffers { value, .. } => value,
     }
 }
 
-// The samples of parameter i, from `at` on, as far as there is room; answers where they end.
-fn parameter_values(f: &Frame, i: usize, values: &mut [i64], at: usize) -> usize
+// The samples of parameter i, as far as there is room; answers how many.
+fn parameter_values(f: &Frame, i: usize, values: &mut [i64]) -> usize
     requires i_bound { i < parameters_in f.now.ruled.now.declared.table.bytes.now }
+    ensures { result ≤ length values.old }
 {
-    let e = f.ruled.declared.table.parameter_at(i);
-    let mut to = at;
-    for j in 0..e.count {
-        if values.len() <= to {
-            return to;
-        }
-        values[to] = value_in(f, i, j);
-        to += 1;
+    let count = f
+        .ruled
+        .declared
+        .table
+        .parameter_at(i)
+        .count
+        .min(values.len());
+    for j in 0..count {
+        values[j] = value_in(f, i, j);
     }
-    to
+    count
 }
 
-// The samples of every parameter.
+// The samples of every parameter, one after the other.
 fn all_values(f: &Frame, values: &mut [i64]) -> usize {
-    let r = f.ruled;
     let mut at = 0;
-    for i in 0..r.declared.table.opened.counts.parameters {
-        at = parameter_values(f, i, values, at);
+    for i in 0..f.ruled.declared.table.opened.counts.parameters {
+        at += parameter_values(f, i, &mut values[at..]);
     }
     at
 }

@@ -3,7 +3,8 @@ use crate::kind::Kind;
 use crate::walk::{fields_text, lines_of_file};
 use intake::say::{number, text};
 use model::limits::{BITS, BLANK_MARGIN, MARGIN, SUBFRAMES, TEXT, VALUE, WORDS};
-use spell::answers::{Bits, Number, Seconds, Truth};
+use ratio::Ratio;
+use spell::answers::Bits;
 use spell::decimals::{decimal, delay};
 use spell::integers::{declared, integer, label, margin};
 use spell::ranges::{component_bits, source_bits};
@@ -12,64 +13,69 @@ use spell::texts::{must_be_empty, text_field, version};
 use spell::truths::{truth, truth_or_empty};
 use text::blank::trimmed;
 use text::keyword::{Keyword, keyword_of};
-use text::refusal::{Judged, Refusal, refusal_number};
+use text::refusal::{Refusal, refusal_number};
 
 pub fn refused(rt: &HostRuntime, r: Refusal) {
     let number = refusal_number(r);
     let _ = print!(rt; "refused {number}");
 }
 
-fn keyword_text(rt: &HostRuntime, k: Keyword) {
-    let _ = match k {
-        Keyword::Header => print!(rt; "header"),
-        Keyword::Record => print!(rt; "record"),
-        Keyword::Nothing => print!(rt; "none"),
-        Keyword::Parameter => print!(rt; "parameter"),
-        Keyword::Other => print!(rt; "no keyword"),
-    };
+// What a field can say, as the output has it.
+trait Say {
+    fn say(self, rt: &HostRuntime);
 }
 
-fn judged_text(rt: &HostRuntime, j: Judged) {
-    match j {
-        Judged::Passes => text(rt, b"passes"),
-        Judged::Refused(r) => refused(rt, r),
+impl Say for () {
+    fn say(self, rt: &HostRuntime) {
+        text(rt, b"passes");
     }
 }
 
-fn number_text(rt: &HostRuntime, n: Number) {
-    match n {
-        Number::Value(v) => number(rt, v),
-        Number::Refused(r) => refused(rt, r),
+impl Say for u64 {
+    fn say(self, rt: &HostRuntime) {
+        number(rt, self);
     }
 }
 
-fn truth_text(rt: &HostRuntime, t: Truth) {
-    match t {
-        Truth::Says(v) => {
-            let _ = print!(rt; "{v}");
-        }
-        Truth::Refused(r) => refused(rt, r),
+impl Say for bool {
+    fn say(self, rt: &HostRuntime) {
+        let _ = print!(rt; "{self}");
     }
 }
 
-fn bits_text(rt: &HostRuntime, b: Bits) {
-    match b {
-        Bits::Range { low, high } => {
-            let _ = print!(rt; "{low} to {high}");
-        }
-        Bits::Refused(r) => refused(rt, r),
+impl Say for Keyword {
+    fn say(self, rt: &HostRuntime) {
+        let _ = match self {
+            Keyword::Header => print!(rt; "header"),
+            Keyword::Record => print!(rt; "record"),
+            Keyword::Nothing => print!(rt; "none"),
+            Keyword::Parameter => print!(rt; "parameter"),
+            Keyword::Other => print!(rt; "no keyword"),
+        };
     }
 }
 
-fn seconds_text(rt: &HostRuntime, s: Seconds) {
-    match s {
-        Seconds::Value {
+impl Say for Bits {
+    fn say(self, rt: &HostRuntime) {
+        let Bits { low, high } = self;
+        let _ = print!(rt; "{low} to {high}");
+    }
+}
+
+impl Say for Ratio {
+    fn say(self, rt: &HostRuntime) {
+        let Ratio {
             numerator,
             denominator,
-        } => {
-            let _ = print!(rt; "{numerator}/{denominator}");
-        }
-        Seconds::Refused(r) => refused(rt, r),
+        } = self;
+        let _ = print!(rt; "{numerator}/{denominator}");
+    }
+}
+
+fn said<T: Say>(rt: &HostRuntime, answer: Result<T, Refusal>) {
+    match answer {
+        Ok(value) => value.say(rt),
+        Err(r) => refused(rt, r),
     }
 }
 
@@ -77,29 +83,29 @@ fn seconds_text(rt: &HostRuntime, s: Seconds) {
 pub fn answer_text(rt: &HostRuntime, kind: Kind, field: &[u8]) {
     let f = trimmed(field);
     match kind {
-        Kind::Keyword => keyword_text(rt, keyword_of(f)),
-        Kind::Words => number_text(rt, integer(f, 6, 1, WORDS as u64)),
-        Kind::Subframes => number_text(rt, integer(f, 6, 1, SUBFRAMES as u64)),
-        Kind::WordBits => number_text(rt, integer(f, 6, 1, BITS as u64)),
-        Kind::Margin => number_text(rt, margin(f, MARGIN as u64, BLANK_MARGIN as u64)),
-        Kind::Identifier => number_text(rt, integer(f, 10, 0, VALUE as u64)),
-        Kind::DeclaredSubframe => number_text(rt, declared(f, 1)),
-        Kind::DeclaredWord => number_text(rt, declared(f, 4)),
-        Kind::Overlap => number_text(rt, integer(f, 6, 0, 999999)),
-        Kind::ComponentBits => bits_text(rt, component_bits(f, 12)),
-        Kind::SourceBits => judged_text(rt, source_bits(f)),
-        Kind::Label => number_text(rt, label(f)),
-        Kind::Time => number_text(rt, decimal(f, 3)),
-        Kind::Delay => judged_text(rt, delay(f)),
-        Kind::Seconds => seconds_text(rt, seconds(f)),
-        Kind::Truth => truth_text(rt, truth(f)),
-        Kind::TruthOrEmpty => judged_text(rt, truth_or_empty(f)),
-        Kind::Text => judged_text(rt, text_field(f, 200, false)),
-        Kind::Model => judged_text(rt, text_field(f, 200, true)),
-        Kind::Name => judged_text(rt, text_field(f, TEXT, true)),
-        Kind::Mnemonic => judged_text(rt, text_field(f, TEXT, false)),
-        Kind::Version => judged_text(rt, version(f)),
-        Kind::MustBeEmpty => judged_text(rt, must_be_empty(f)),
+        Kind::Keyword => keyword_of(f).say(rt),
+        Kind::Words => said(rt, integer(f, 6, 1, WORDS as u64)),
+        Kind::Subframes => said(rt, integer(f, 6, 1, SUBFRAMES as u64)),
+        Kind::WordBits => said(rt, integer(f, 6, 1, BITS as u64)),
+        Kind::Margin => said(rt, margin(f, MARGIN as u64, BLANK_MARGIN as u64)),
+        Kind::Identifier => said(rt, integer(f, 10, 0, VALUE as u64)),
+        Kind::DeclaredSubframe => said(rt, declared(f, 1)),
+        Kind::DeclaredWord => said(rt, declared(f, 4)),
+        Kind::Overlap => said(rt, integer(f, 6, 0, 999999)),
+        Kind::ComponentBits => said(rt, component_bits(f, 12)),
+        Kind::SourceBits => said(rt, source_bits(f)),
+        Kind::Label => said(rt, label(f)),
+        Kind::Time => said(rt, decimal(f, 3)),
+        Kind::Delay => said(rt, delay(f)),
+        Kind::Seconds => said(rt, seconds(f)),
+        Kind::Truth => said(rt, truth(f)),
+        Kind::TruthOrEmpty => said(rt, truth_or_empty(f)),
+        Kind::Text => said(rt, text_field(f, 200, false)),
+        Kind::Model => said(rt, text_field(f, 200, true)),
+        Kind::Name => said(rt, text_field(f, TEXT, true)),
+        Kind::Mnemonic => said(rt, text_field(f, TEXT, false)),
+        Kind::Version => said(rt, version(f)),
+        Kind::MustBeEmpty => said(rt, must_be_empty(f)),
         Kind::Fields => fields_text(rt, field),
         Kind::Lines => lines_of_file(rt, field),
     }

@@ -5,16 +5,13 @@ use crate::answer::{answer_text, refused};
 use crate::kind::Kind;
 use intake::list::each_line;
 use intake::say::text;
-use spell::answers::Number;
 use spell::integers::integer;
 use text::part::{past_first, up_to};
 
 // The number that a line begins with.
 fn kind_of(line: &[u8]) -> Option<Kind> {
-    match integer(up_to(line, 32), 6, 0, 24) {
-        Number::Value(n) => Kind::try_from(n).ok(),
-        Number::Refused(_) => None,
-    }
+    let number = integer(up_to(line, 32), 6, 0, 24).ok()?;
+    Kind::try_from(number).ok()
 }
 
 // A number that is no kind's shows in the output.

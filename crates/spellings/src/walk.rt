@@ -4,7 +4,7 @@ ghost use Rattle.std.specs.Prelude.{◌≤◌, length};
 use crate::answer::refused;
 use intake::load;
 use intake::say::text;
-use lines::{Cursor, Found};
+use lines::{Cursor, Line};
 use text::field::{field_at, field_bytes, field_count};
 use text::part::between;
 use text::refusal::Refusal;
@@ -26,8 +26,9 @@ pub fn fields_text(rt: &HostRuntime, line: &[u8]) {
     }
 }
 
-fn line_text(rt: &HostRuntime, line: &[u8], start: usize, end: usize) {
-    let fields = field_count(line);
+fn line_text(rt: &HostRuntime, bytes: &[u8], line: Line) {
+    let Line { start, end, .. } = line;
+    let fields = field_count(bytes);
     let _ = print!(rt; "{start} to {end} of {fields}; ");
 }
 
@@ -44,14 +45,11 @@ fn found_text(rt: &HostRuntime, sheet: &[u8])
     let mut c = Cursor { at: 0, number: 0 };
     loop {
         match c.next(sheet) {
-            Found::Line { start, end, next } => {
-                line_text(rt, between(sheet, start, end), start, end);
-                c = next;
+            Ok(line) => {
+                line_text(rt, between(sheet, line.start, line.end), line);
+                c = line.next;
             }
-            Found::Refused(r) => {
-                stopped_text(rt, r, c.number + 1);
-                return;
-            }
+            Err(r) => return stopped_text(rt, r, c.number + 1),
         }
     }
 }

@@ -4,8 +4,8 @@ use lib.ListN.{length}
 use Rattle.lines.specs.Line.{Ready}
 use Rattle.spellings.proofs.walk.found_text.Given as goal
 
-abbrev pub invariant-loop-start : goal.invariant-loop-start
-invariant-loop-start l = Ready l.sheet l.c
+abbrev pub invariant-loop-line : goal.invariant-loop-line
+invariant-loop-line l = Ready l.sheet l.c
 
-abbrev pub decreases-loop-start : goal.decreases-loop-start
-decreases-loop-start l = length l.sheet - l.c.at
+abbrev pub decreases-loop-line : goal.decreases-loop-line
+decreases-loop-line l = length l.sheet - l.c.at
