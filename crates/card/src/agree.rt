@@ -1,4 +1,5 @@
 // Record identifiers, compared where they stand in a stream.
+// Sample j of all: its law stands with its parameter's, and is asked here.
 ghost use Rattle.std.specs.Prelude.{◌≡◌, ◌*◌, ◌≤◌, ◌<◌};
 ghost use Rattle.model.specs.Forms.{limits_in};
 ghost use Rattle.model.specs.Samples.{holds};

@@ -29,7 +29,7 @@ pub struct Sampling {
 // A word is less than this.
 const WORD_SPAN: u64 = WORDS as u64 + 1;
 
-// Subframe and word as one number.
+// Subframe and word as one number. That a part is modest is no field of it: the definition that reads a line makes parts.
 fn spot_of(p: Part) -> Component
     requires { Modest p }
     ensures { result ≡ spot_of p }

@@ -10,6 +10,7 @@ use text::field::field_of;
 
 // samples and components in all, with the open parameter's and the open sample's; own are the open parameter's samples,
 // parts the open sample's components, text the whole parameters' bytes of text; then the open parameter.
+// That it is small is no field of it: the definitions make tallies, and each would have to prove it on the way.
 #[derive(Clone, Copy)]
 pub struct Tally {
     pub declared: usize,
