@@ -8,7 +8,7 @@ ghost use Rattle.carding.specs.Answer.{longest_stream, margins_told};
 use bench::cards::{card, card_from};
 use card::spans::span_of;
 use frame::sized::Frame;
-use intake::say::put;
+use intake::say::{put, text};
 use listed::cards::{CARD_ROWS, put_card_heading, put_card_rows};
 use listed::listing::put_refused;
 use rules::bases::frame_words;
@@ -16,11 +16,13 @@ use rules::ruled::RuledTable;
 use table::check::opening;
 use table::reason::{Reason, reason_number};
 
-// The rows of each parameter in the frame at a position.
+// The rows of each parameter in the frame at a position. They stand in a buffer here: of a closure that captures a frame `put` is
+// told nothing.
 fn rows(rt: &HostRuntime, f: &Frame, position: u32) {
-    let r = f.ruled;
-    for i in 0..r.declared.table.opened.counts.parameters {
-        put::<CARD_ROWS, _>(rt, |out| put_card_rows(f, position, i, out));
+    let mut out = [0u8; CARD_ROWS];
+    for i in 0..f.ruled.declared.table.opened.counts.parameters {
+        let n = put_card_rows(f, position, i, &mut out);
+        text(rt, &out[..n]);
     }
 }
 
@@ -45,24 +47,25 @@ fn frames(rt: &HostRuntime, r: &RuledTable, stream: &[u8], first: u32, words: &m
             words: &words[..count],
         };
         rows(rt, &frame, position);
-        let found = card_from(r.declared.table.bytes, stream, position + bits, words);
-        let Ok(next) = found else {
+        let Ok(next) = card_from(r.declared.table.bytes, stream, position + bits, words) else {
             return;
         };
         position = next.position;
     }
 }
 
-// What is no table is refused, 18, and a card without a frame: 27, 26, 38 or 25.
+// The heading and the rows of every frame, or 18, 27, 26, 38 or 25.
+fn carded(rt: &HostRuntime, t: &[u8], stream: &[u8], words: &mut [u16]) -> Result<(), Reason> {
+    let r = opening(t).ok_or(Reason::NoTable)?;
+    let found = card(t, stream, words)?;
+    put::<37, _>(rt, |out| put_card_heading(out));
+    frames(rt, &r, stream, found.position, words);
+    Ok(())
+}
+
+// What is no table is refused, and a card without a frame.
 pub fn show(rt: &HostRuntime, t: &[u8], stream: &[u8], words: &mut [u16]) {
-    let Some(r) = opening(t) else {
-        return refused(rt, reason_number(Reason::NoTable), 0);
-    };
-    match card(t, stream, words) {
-        Ok(found) => {
-            put::<37, _>(rt, |out| put_card_heading(out));
-            frames(rt, &r, stream, found.position, words);
-        }
-        Err(reason) => refused(rt, reason_number(reason), 0),
+    if let Err(reason) = carded(rt, t, stream, words) {
+        refused(rt, reason_number(reason), 0);
     }
 }

@@ -2,16 +2,17 @@
 use bench::texts::words_of;
 use frame::fit::fit_of;
 use frame::sized::Frame;
-use intake::say::put;
+use intake::say::{put, text};
 use listed::listing::{ROWS, put_heading, put_parameter, put_refused};
 use table::check::opening;
 use table::reason::{Reason, reason_number};
 
-// The rows of each parameter.
+// The rows of each parameter. They stand in a buffer here: of a closure that captures a frame `put` is told nothing.
 fn rows(rt: &HostRuntime, f: &Frame) {
-    let r = f.ruled;
-    for i in 0..r.declared.table.opened.counts.parameters {
-        put::<ROWS, _>(rt, |out| put_parameter(f, i, out));
+    let mut out = [0u8; ROWS];
+    for i in 0..f.ruled.declared.table.opened.counts.parameters {
+        let n = put_parameter(f, i, &mut out);
+        text(rt, &out[..n]);
     }
 }
 
@@ -20,17 +21,12 @@ pub fn refused(rt: &HostRuntime, number: u32, line: u32) {
 }
 
 // 18, 19 and 20, or the heading and the rows.
-fn fitted(rt: &HostRuntime, t: &[u8], words: &[u16]) {
-    let Some(r) = opening(t) else {
-        return refused(rt, reason_number(Reason::NoTable), 0);
-    };
-    match fit_of(&r, words) {
-        Ok(_) => {
-            put::<28, _>(rt, |out| put_heading(out));
-            rows(rt, &Frame { ruled: &r, words });
-        }
-        Err(reason) => refused(rt, reason_number(reason), 0),
-    }
+fn fitted(rt: &HostRuntime, t: &[u8], words: &[u16]) -> Result<(), Reason> {
+    let r = opening(t).ok_or(Reason::NoTable)?;
+    fit_of(&r, words)?;
+    put::<28, _>(rt, |out| put_heading(out));
+    rows(rt, &Frame { ruled: &r, words });
+    Ok(())
 }
 
 // An odd byte, or more words than are lent, is 19.
@@ -39,5 +35,7 @@ pub fn show(rt: &HostRuntime, t: &[u8], frame: &[u8], words: &mut [u16]) {
     if number != 0 {
         return refused(rt, number, 0);
     }
-    fitted(rt, t, &words[..frame.len() / 2]);
+    if let Err(reason) = fitted(rt, t, &words[..frame.len() / 2]) {
+        refused(rt, reason_number(reason), 0);
+    }
 }

@@ -1,7 +1,7 @@
 // Kinds 8 and 10: the first frame of a card, and the first from a bit on.
 use crate::sum::of_items;
 use bench::cards::{card, card_from, card_number};
-use carding::carded::Carded;
+use carding::carded::Found;
 
 pub fn card_line(
     rt: &HostRuntime,
@@ -16,10 +16,10 @@ pub fn card_line(
         Some(bit) => (10, card_from(table, stream, bit, lent)),
     };
     let number = card_number(found);
-    let (position, count) = match found {
-        Carded::Found { position, count } => (position, count),
-        _ => (0, 0),
-    };
+    let Found { position, count } = found.unwrap_or(Found {
+        position: 0,
+        count: 0,
+    });
     let sum = of_items(lent);
     let _ = println!(rt; "{kind} {number} {position} {count} {sum}");
 }

@@ -3,7 +3,6 @@ use crate::case::Frame;
 use crate::sum::of_items;
 use bench::frames::{compare, compare_number, place, place_number, read, read_number};
 use bench::texts::words_of;
-use framing::compare::Compared;
 use framing::page::Request;
 use framing::read::Reading;
 
@@ -19,9 +18,9 @@ pub fn read_line(rt: &HostRuntime, table: &[u8], words: &[u16], of: Request) {
     let answer = read(table, words, of.parameter, of.sample);
     let number = read_number(answer);
     let (kind, width, raw, value) = match answer {
-        Reading::Sample { raw, width, value } => (1, width, raw, value),
-        Reading::OverlapDiffers { raw, width, value } => (2, width, raw, value),
-        Reading::Refused(_) => (0, 0, 0, 0),
+        Ok(Reading::Sample { raw, width, value }) => (1, width, raw, value),
+        Ok(Reading::OverlapDiffers { raw, width, value }) => (2, width, raw, value),
+        Err(_) => (0, 0, 0, 0),
     };
     let _ = println!(rt; "3 {number} {kind} {width} {raw} {value}");
 }
@@ -36,9 +35,6 @@ pub fn place_line(rt: &HostRuntime, table: &[u8], words: &mut [u16], of: Request
 pub fn compare_line(rt: &HostRuntime, table: &[u8], words: &[u16]) {
     let answer = compare(table, words);
     let number = compare_number(answer);
-    let subframe = match answer {
-        Compared::Differs(subframe) => subframe,
-        _ => 0,
-    };
+    let subframe = answer.ok().flatten().unwrap_or(0);
     let _ = println!(rt; "5 {number} {subframe}");
 }

@@ -2,7 +2,7 @@
 use crate::cursor::Cursor;
 use crate::sum::Sum;
 use bench::pages::read_page;
-use framing::page::{Outcome, Request};
+use framing::page::{Outcome, Paged, Request};
 
 // One request more than a page may have: with yet more it is refused alike, and writes nothing.
 const KEPT: usize = 257;
@@ -22,11 +22,10 @@ fn requests_of<'r>(bytes: &[u8], lent: &'r mut [Request]) -> &'r [Request] {
 }
 
 fn of_results(results: &[Outcome]) -> u64 {
-    let mut sum = Sum::new();
-    for result in results {
-        sum = sum.outcome(*result);
-    }
-    sum.value
+    results
+        .iter()
+        .fold(Sum::new(), |sum, outcome| sum.outcome(*outcome))
+        .value
 }
 
 // None where more results are lent than there is room for.
@@ -49,9 +48,7 @@ pub fn page_line(
         value: 42405,
     }; SLOTS];
     let lent = results.get_mut(..lent)?;
-    let paged = read_page(table, words, requests_of(asked, &mut requests), lent);
-    let number = paged.number;
-    let count = paged.count;
+    let Paged { number, count } = read_page(table, words, requests_of(asked, &mut requests), lent);
     let sum = of_results(lent);
     let _ = println!(rt; "9 {number} {count} {sum}");
     Some(())

@@ -35,9 +35,8 @@ impl Sum {
 }
 
 pub fn of_items<T: Copy + Into<u32>>(items: &[T]) -> u64 {
-    let mut sum = Sum::new();
-    for x in items {
-        sum = sum.item((*x).into());
-    }
-    sum.value
+    items
+        .iter()
+        .fold(Sum::new(), |sum, x| sum.item((*x).into()))
+        .value
 }

@@ -14,6 +14,7 @@ pub fn check_line(rt: &HostRuntime, table: &[u8]) {
 }
 
 // A slice doesn't say where it stands: the place comes from the parameter's entry. 0 where refused.
+#[tactic(auto, unfolding(table::specs::Answers::place_answered))]
 fn start_in(t: &Table, asked: Result<usize, Reason>) -> usize
     requires asked_here { AskedHere t.now.bytes.now asked }
     ensures { result ≡ place_answered t.now.bytes.now asked }
@@ -24,6 +25,7 @@ fn start_in(t: &Table, asked: Result<usize, Reason>) -> usize
     }
 }
 
+// Beside `start_by`: they differ in what is asked, and a closure for it would need a contract that says as much.
 fn start_of(t: &[u8], parameter: u32) -> usize
     ensures { result ≡ place_answered t.now (asked_number t.now parameter) }
 {

@@ -6,7 +6,6 @@ use Rattle.model.specs.View.{view}
 use Rattle.table.specs.Answers.{Asked, AskedHere, asked_mnemonic, called, place_answered}
 use Rattle.table.proofs.Accepting.{opened_here, opened_not, opened_now, opened_entries}
 use Rattle.table.proofs.Asking.{mnemonic_asked, mnemonic_table, mnemonic_no_table}
-use Rattle.trial.proofs.Places.{place_refused}
 use Rattle.trial.proofs.tables.start_by.Goals.{After-with_mnemonic}
 use Rattle.trial.proofs.tables.start_by.Goals as goal
 
@@ -30,4 +29,5 @@ returns-in-Some c =
     ∙ ap (place_answered c.args.t.now) (asked (goal.at.returns-in-Some c).After-with_mnemonic)
 
 pub returns-in-None : goal.returns-in-None
-returns-in-None c = place_refused _ _ _ (mnemonic_no_table _ _ (opened_not c.in-None.ensures refl))
+unfolding place_answered
+returns-in-None c = rw (mnemonic_no_table c.args.t.now c.args.mnemonic.now (opened_not c.in-None.ensures refl))

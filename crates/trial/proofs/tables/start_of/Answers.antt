@@ -5,7 +5,6 @@ use Prim.Native.Nat.{ℕ}
 use Rattle.table.specs.Answers.{Asked, AskedHere, asked_number, place_answered}
 use Rattle.table.proofs.Accepting.{opened_here, opened_not, opened_now, opened_parameters}
 use Rattle.table.proofs.Asking.{number_asked, number_table, number_no_table}
-use Rattle.trial.proofs.Places.{place_refused}
 use Rattle.trial.proofs.tables.start_of.Goals.{After-numbered}
 use Rattle.trial.proofs.tables.start_of.Goals as goal
 
@@ -25,4 +24,5 @@ returns-in-Some c =
     ∙ ap (place_answered c.args.t.now) (asked (goal.at.returns-in-Some c).After-numbered)
 
 pub returns-in-None : goal.returns-in-None
-returns-in-None c = place_refused _ _ _ (number_no_table _ _ (opened_not c.in-None.ensures refl))
+unfolding place_answered
+returns-in-None c = rw (number_no_table c.args.t.now c.args.parameter (opened_not c.in-None.ensures refl))
