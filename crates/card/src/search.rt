@@ -22,7 +22,7 @@ fn next_sifted(stream: &[u8], p: usize, sieve: &Sieve) -> usize
     }
 }
 
-// The first at or after `from`.
+// The first at or after `from`. (A while: the position jumps.)
 #[tactic(auto, using(crate::proofs::Searching::walk_found))]
 pub fn position_from(s: &SpannedTable, stream: &[u8], from: usize, bits: usize) -> Option<usize>
     requires bits_value { (bits ≡ frame_bits (view s.now.ruled.declared.table.bytes.now)) × (bits ≤ most_frame_bits) }

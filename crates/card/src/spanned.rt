@@ -4,7 +4,7 @@ ghost use Rattle.card.specs.Promise.{BeginsOf};
 use model::limits::SUBFRAMES;
 use rules::ruled::RuledTable;
 
-// By subframe, counted from 0, how many bits of a frame stand before its words.
+// By subframe, counted from 0, how many bits of a frame stand before its words, in memory that is fixed.
 #[derive(Clone, Copy)]
 pub struct SpannedTable<'t> {
     pub ruled: RuledTable<'t>,

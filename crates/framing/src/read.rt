@@ -1,4 +1,4 @@
-// What is read of a listed sample: it, or one whose components hold unlike copies of some bit. Beside it stands the reason of a refusal.
+// What is read of a listed sample: it, or one whose components hold unlike copies of some bit. A read that is refused is `Err`.
 #[derive(Clone, Copy, PartialEq, Eq, Debug)]
 pub enum Reading {
     Sample { raw: u32, width: u32, value: i64 },

@@ -23,7 +23,8 @@ fn differs(sheet: &[u8], place: Place, text: &[u8]) -> bool
     !same_text(text_at(sheet, place), text)
 }
 
-// Whether no parameter has this name; this mnemonic; this identification. (Three functions: a field cannot be an argument.)
+// Whether no parameter has this name; this mnemonic; this identification. (Three
+// functions: three definitions, which theorems name, say it of a text each.)
 fn is_new_name(sheet: &[u8], kept: &[Kept], name: &[u8]) -> bool
     ensures { result ≡ new_name_in sheet.now kept.now name.now }
 {

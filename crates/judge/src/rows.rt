@@ -26,7 +26,8 @@ pub struct Kept {
     pub good: bool,
 }
 
-// Words and bits stand in a list each: lineforms' definition `component_fields` takes two lists.
+// Words and bits stand in a list each: lineforms' definition `component_fields` takes two lists. The memory is fixed:
+// how many rows are filled stands in the tally.
 #[derive(Drop)]
 pub struct Rows {
     pub words: [u64; PAIRS],

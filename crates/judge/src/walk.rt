@@ -63,8 +63,7 @@ fn ended(t: &State, missing: u32, rows: &Rows) -> Result<Tally, Rejected>
     identified(t.counts, &rows.kept[..t.counts.parameters])
 }
 
-// The lines from the top: a cursor's loop, since each line begins where the one before it ended. (No `?` at a turn: a refusal is
-// given its line.)
+// The lines from the top: a cursor's loop, since each line begins where the one before it ended.
 fn walked(sheet: &[u8], rows: &mut Rows) -> Result<Tally, Rejected>
     requires { length sheet.now ≤ 65536 }
     ensures { result ≡ verdict_of (judge_of sheet.now) (tally_of (book_of sheet.now)) }

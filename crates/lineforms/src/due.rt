@@ -27,6 +27,7 @@ pub enum Due {
     Nothing,
 }
 
+// A line that is none of them is a form too: the definition `form_of` answers one for every line, and the judge refuses it.
 #[derive(Clone, Copy, Debug, PartialEq, Eq)]
 pub enum Form {
     Stray,

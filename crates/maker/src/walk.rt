@@ -11,7 +11,8 @@ use lines::Cursor;
 use stored::items::Starts;
 use text::part::between;
 
-// Lays down all but the header; each record pair is written n times.
+// Lays down all but the header; each record pair is written n times. (A cursor's loop: each line
+// begins where the one before it ended.)
 pub fn walk(sheet: &[u8], a: Starts, n: usize, out: &mut [u8])
     requires { Walkable sheet.now a n (length out.old) }
     ensures { out.new ≡ laid out.old (places_of a) n (book_of sheet.now) }

@@ -6,7 +6,7 @@ ghost use Rattle.rules.specs.Props.{margin_law_prop};
 use model::limits::SUBFRAMES;
 use stored::table::Table;
 
-// By subframe, counted from 0, how many words stand before it: found once, and kept beside the table.
+// By subframe, counted from 0, how many words stand before it: found once, and kept beside the table, in memory that is fixed.
 #[derive(Clone, Copy)]
 pub struct DeclaredTable<'t> {
     pub table: Table<'t>,

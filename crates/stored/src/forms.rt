@@ -1,4 +1,5 @@
-// THE CODE THAT KNOWS THE FORMS: each form's layout in numbers, and its limits. A form is one arm in each function.
+// THE CODE THAT KNOWS THE FORMS: each form's layout in numbers, and its limits. A form is a number here,
+// as in a table's bytes and in the definitions.
 ghost use Rattle.std.specs.Prelude.{◌≡◌, true, cond, ◌+◌, ◌≤◌, leb, length};
 ghost use Rattle.model.specs.Forms.{known, layout_of, limits_of, form_at, form_wide, form_in};
 ghost use Rattle.stored.specs.Shapes.{header_shape, subframe_shape, parameter_shape, sample_shape, component_shape, bounds_of};

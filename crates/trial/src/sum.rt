@@ -29,8 +29,8 @@ impl Sum {
             .item(o.kind)
             .item(o.width)
             .item(o.raw)
-            .item((value & 0xffff_ffff) as u32)
-            .item((value >> 32) as u32)
+            .item(bits::low_bits_of(value, 32) as u32)
+            .item(bits::bits_above(value, 32) as u32)
     }
 }
 
