@@ -12,6 +12,7 @@ use text::refusal::refusal_number;
 
 // A sheet or a card that is too long is seen to be so; there are as many words as a frame has at most. A file that is missing
 // has no bytes.
+#[tactic(auto, using(maker::proofs::MadeTables::made_room))]
 fn main(rt: HostRuntime) {
     let mut sheet = [0u8; 65537];
     let mut card = [0u8; LONGEST_STREAM + 1];

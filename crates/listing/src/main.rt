@@ -13,6 +13,7 @@ use text::refusal::refusal_number;
 const MORE_WORDS: usize = SUBFRAMES * WORDS + 1;
 
 // A sheet that is too long, and a frame longer than any table's, are seen to be so; a file that is missing has no bytes.
+#[tactic(auto, using(maker::proofs::MadeTables::made_room))]
 fn main(rt: HostRuntime) {
     let mut sheet = [0u8; 65537];
     let mut frame = [0u8; 2 * MORE_WORDS];

@@ -30,6 +30,7 @@ fn fitted(rt: &HostRuntime, t: &[u8], words: &[u16]) -> Result<(), Reason> {
 }
 
 // An odd byte, or more words than are lent, is 19.
+#[tactic(auto, using(crate::proofs::Rooms::words_room))]
 pub fn show(rt: &HostRuntime, t: &[u8], frame: &[u8], words: &mut [u16]) {
     let number = words_of(frame, words);
     if number != 0 {
