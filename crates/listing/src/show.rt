@@ -21,6 +21,7 @@ pub fn refused(rt: &HostRuntime, number: u32, line: u32) {
 }
 
 // 18, 19 and 20, or the heading and the rows.
+#[tactic(auto, using(framing::proofs::WantCases::fits_long))]
 fn fitted(rt: &HostRuntime, t: &[u8], words: &[u16]) -> Result<(), Reason> {
     let r = opening(t).ok_or(Reason::NoTable)?;
     fit_of(&r, words)?;

@@ -49,6 +49,7 @@ fn all_values(f: &Frame, values: &mut [i64]) -> usize {
 }
 
 // A frame, with its words judged; none of its samples where it is refused.
+#[tactic(auto, using(framing::proofs::WantCases::fits_long))]
 fn frame_values(r: &RuledTable, words: &[u16], values: &mut [i64]) -> usize {
     match fit_of(r, words) {
         Ok(_) => all_values(&Frame { ruled: r, words }, values),
