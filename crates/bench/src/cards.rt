@@ -18,7 +18,7 @@ pub fn card(t: &[u8], stream: &[u8], words: &mut [u16]) -> Result<Found, Reason>
     card_from(t, stream, 0, words)
 }
 
-// 0, 18, 27, 26, 38, 25 or 28.
+// 0, 18, 27, 26, 38, 25 or 28. (Each kind of answer has a call of its own for its number, with a definition of that name.)
 #[tactic(auto, unfolding(carding::specs::Answer::carded_number))]
 pub fn card_number(carded: Result<Found, Reason>) -> u32
     ensures { CardNumbered carded result }
@@ -27,7 +27,7 @@ pub fn card_number(carded: Result<Found, Reason>) -> u32
 }
 
 // How many bits a frame has: a card's next frame is looked for from the last one's position and so many bits on. 0 where the
-// bytes are no table, or one that does not tell its margins.
+// bytes are no table, or one that does not tell its margins: so the call promises it.
 pub fn frame_bits(t: &[u8]) -> u32
     ensures { FrameBits t.now result }
 {

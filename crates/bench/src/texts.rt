@@ -1,5 +1,5 @@
 // The listing's texts, each put at the front of the lent bytes. Answered is a text's length: 0, and no byte is changed, where
-// there is nothing to write or the lent bytes are too few.
+// there is nothing to write or the lent bytes are too few. (A number and no Option: so these calls promise it.)
 ghost use Rattle.std.specs.Prelude.{◌≡◌, ◌+◌, ◌≤◌, length};
 ghost use Rattle.lay.specs.Bytes.{put};
 ghost use Rattle.table.specs.Answers.{asked_number, name_answered};
@@ -77,7 +77,7 @@ pub fn row(t: &[u8], words: &[u16], parameter: u32, sample: u32, out: &mut [u8])
     }
 }
 
-// The words that a frame's bytes spell; 19 for an odd byte, or more words than are lent.
+// The words that a frame's bytes spell; 19 for an odd byte, or more words than are lent. (The number, as the call promises it.)
 pub fn words_of(bytes: &[u8], words: &mut [u16]) -> u32
     ensures { WordsFill bytes.now words.old result words.new }
 {

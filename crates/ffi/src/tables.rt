@@ -68,7 +68,8 @@ pub fn orb_name_of(table: &[u8], parameter: u32) -> OrbName
     }
 }
 
-// The name of the parameter with this mnemonic.
+// The name of the parameter with this mnemonic. (Beside the one by number: a closure for the one line between would need a contract that
+// says as much.)
 pub fn orb_name_by(table: &[u8], mnemonic: &[u8]) -> OrbName
     ensures { NamesByOut table.now mnemonic.now result }
 {

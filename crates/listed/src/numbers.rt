@@ -16,7 +16,7 @@ pub fn put_decimal(out: &mut [u8], o: usize, n: u64) -> usize
     o + k
 }
 
-// The value v at o, the minus sign first; answers where it ends.
+// The value v at o, the minus sign first; answers where it ends. (By hand: std prints to a stream, and the text is proved of the bytes.)
 pub fn put_value(out: &mut [u8], o: usize, v: i64) -> usize
     requires { o + 21 ≤ length out.old }
     ensures { (result ≡ o + length (value_text v)) × (out.new ≡ put out.old o (value_text v)) }

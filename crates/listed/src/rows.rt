@@ -1,4 +1,4 @@
-// A row of the listing, written into a lent slice.
+// A row of the listing, written into a lent slice. The place goes from call to call: it is what each promises, the text's length on.
 ghost use Rattle.std.specs.Prelude.{◌≡◌, [], ◌∷◌, ◌++◌, ◌+◌, ◌≤◌, length};
 ghost use Rattle.lay.specs.Bytes.{put};
 ghost use Rattle.listed.specs.Decimals.{decimal_text, value_text};

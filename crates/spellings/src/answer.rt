@@ -20,7 +20,7 @@ pub fn refused(rt: &HostRuntime, r: Refusal) {
     let _ = print!(rt; "refused {number}");
 }
 
-// What a field can say, as the output has it.
+// What a field can say, as the output has it. (Not Display: the types are std's, or have another crate.)
 trait Say {
     fn say(self, rt: &HostRuntime);
 }

@@ -14,6 +14,7 @@ pub fn spelt<'w>(frame: Frame, words: &'w mut [u16]) -> Option<&'w mut [u16]> {
     words.get_mut(..frame.words.len() / 2)
 }
 
+// The kinds 1, 2 and 0 of a reading, as a page has them: the single read of the bench answers the reading itself.
 pub fn read_line(rt: &HostRuntime, table: &[u8], words: &[u16], of: Request) {
     let answer = read(table, words, of.parameter, of.sample);
     let number = read_number(answer);
