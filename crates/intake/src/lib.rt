@@ -12,7 +12,8 @@ use std::fs::File;
 use std::os::fd::AsRawFd;
 use std::str::from_utf8;
 
-// Fills buf from the start of the file, and answers how many bytes it has: none where the file doesn't open.
+// Fills buf from the start of the file, and answers how many bytes it has: none where the file doesn't open. (The count and no
+// slice: where nothing is read, the promise speaks of the lent bytes as they were.)
 pub fn file_bytes(rt: &HostRuntime, path: &[u8], buf: &mut [u8]) -> Option<usize>
     ensures count { IfSome result (λ n. IsPrefixLen n buf.new) }
     ensures unread { IfNone result (buf.new ≡ buf.old) }
