@@ -1,16 +1,36 @@
 -- Words of bytes, one after the other. Assumes nothing.
 use mathlib.Core.Path.{◌≡◌, refl, sym, ap, subst, ◌∙◌}
 use mathlib.Core.List.{List}
-use Prim.Native.Nat.{ℕ, ◌+◌, ◌*◌, ◌/◌, ◌≤◌, ◌<◌}
+use Prim.Native.Nat.{ℕ, zero, suc, ◌+◌, ◌*◌, ◌/◌, ◌≤◌, ◌<◌}
+use native.Mathlib.Nat.{not-suc-le-zero, le_of_suc-le-suc}
 use native.Mathlib.Omega.{arith}
 use native.Mathlib.Numerals.{add-one}
-use lib.ListN.{length, set}
+use lib.ListN.{length, set, get_or, take, drop}
+use lib.Seq.{drop-drop}
+use mir.Syntax.{w16}
+use Rattle.std.specs.Simd.{first_chunks}
+use Rattle.std.specs.Int.{from_le_bytes}
 use Rattle.lay.specs.Below.{tab}
-use Rattle.lay.specs.Bytes.{num_at, put}
+use Rattle.lay.specs.Bytes.{num_at, part, put}
+use Rattle.lay.proofs.Bytes.{num_read, number_two}
 use Rattle.lay.proofs.Below.{length_tab}
 use Rattle.lay.proofs.Puts.{length_put, put_none}
 use Rattle.listed.specs.Listing.{words_of}
 use Rattle.listed.proofs.LineLaws.{put_ended}
+
+-- the i-th pair of the bytes
+pair : (k i : ℕ) (b d : List ℕ) → i < k → get_or (first_chunks 2 k b) i d ≡ part b (2 * i) 2
+pair zero i b d h = absurd (not-suc-le-zero h)
+pair (suc k) zero b d h = refl
+pair (suc k) (suc i) b d h =
+    let e : 2 + 2 * i ≡ 2 * suc i = omega arith in
+    pair k i (drop 2 b) d (le_of_suc-le-suc h) ∙ ap (take 2) (drop-drop (2 * i) 2 b ∙ ap (λ (n : ℕ). drop n b) e)
+
+-- spells the i-th word
+pub pair_word : (b d : List ℕ) (cs : List (List ℕ)) (i r : ℕ) → cs ≡ first_chunks 2 (length b / 2) b → i < length b / 2 → r ≡ from_le_bytes w16 (get_or cs i d) → r ≡ num_at 2 b (2 * i)
+pair_word b d cs i r e h f =
+    let p : get_or cs i d ≡ part b (2 * i) 2 = ap (λ (l : List (List ℕ)). get_or l i d) e ∙ pair (length b / 2) i b d h in
+    num_read 2 b (2 * i) (get_or cs i d) r (omega (arith, h)) p (λ l. f ∙ number_two (get_or cs i d) l)
 
 -- the first i words are there
 pub record Words (bytes words₀ : List ℕ) (n : ℕ) (words : List ℕ) (i : ℕ) : Type 0 where
