@@ -27,8 +27,9 @@ pub fn read_page(
         };
     }
     let page = page_of(table, words);
-    for i in 0..requests.len() {
-        results[i] = outcome_by(&page, requests[i].parameter, requests[i].sample);
+    // Not by `iter_mut().zip(requests)`: of what is written through it a proof knows the length alone.
+    for (i, request) in requests.iter().enumerate() {
+        results[i] = outcome_by(&page, request.parameter, request.sample);
     }
     Paged {
         number: 0,

@@ -103,8 +103,8 @@ pub fn put_words(bytes: &[u8], words: &mut [u16])
     requires { length bytes.now ≤ 2 * length words.old }
     ensures { words.new ≡ put words.old 0 (words_of bytes.now) }
 {
-    let n = bytes.len() / 2;
-    for i in 0..n {
-        words[i] = lay::two_at(bytes, 2 * i) as u16;
+    // Not by `words.iter_mut().zip(..)`: of what is written through it a proof knows the length alone.
+    for (i, pair) in bytes.as_chunks::<2>().0.iter().enumerate() {
+        words[i] = u16::from_le_bytes(*pair);
     }
 }

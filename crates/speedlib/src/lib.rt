@@ -33,8 +33,8 @@ fn parameter_values(f: &Frame, i: usize, values: &mut [i64]) -> usize
         .parameter_at(i)
         .count
         .min(values.len());
-    for j in 0..count {
-        values[j] = value_in(f, i, j);
+    for (j, value) in values[..count].iter_mut().enumerate() {
+        *value = value_in(f, i, j);
     }
     count
 }

@@ -12,11 +12,11 @@ const SLOTS: usize = 2000;
 // The requests that the bytes spell, two numbers each, at the front of the lent ones, as far as there is room.
 fn requests_of<'r>(bytes: &[u8], lent: &'r mut [Request]) -> &'r [Request] {
     let mut c = Cursor { rest: bytes };
-    for n in 0..lent.len() {
+    for (n, slot) in lent.iter_mut().enumerate() {
         let Some(request) = c.request() else {
             return &lent[..n];
         };
-        lent[n] = request;
+        *slot = request;
     }
     lent
 }
