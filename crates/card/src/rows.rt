@@ -1,4 +1,4 @@
-// Bits that a frame must have, as rows in fixed memory.
+// Bits that a frame must have, as rows in fixed memory. (Not sample's `Components`: a row has what it must be, and its bounds.)
 ghost use Rattle.std.specs.Prelude.{◌≤◌};
 ghost use Rattle.model.specs.Forms.{sheet_limits};
 ghost use Rattle.card.specs.Promise.{most_run_at, most_rows};

@@ -26,6 +26,7 @@ fn rows(rt: &HostRuntime, f: &Frame, position: u32) {
     }
 }
 
+// (The same line in listing: intake, which the programs share, knows no listing.)
 pub fn refused(rt: &HostRuntime, number: u32, line: u32) {
     put::<50, _>(rt, |out| put_refused(out, number, line));
 }

@@ -1,5 +1,5 @@
 // 16: record identifiers, judged after the last line from what was kept of each parameter: whether it is an identifier,
-// whether it alone is in order, its subframe and its value.
+// whether it alone is in order, its subframe and its value. (crate rules asks the same of a table's bytes, by its own definitions.)
 ghost use Rattle.std.specs.Prelude.{◌≡◌, ◌+◌, ◌<◌, length};
 ghost use Rattle.lay.specs.Below.{all};
 ghost use Rattle.judge.specs.Sixteen.{unlike_in, new_in, identifies_in, first_bad_in, taken_in};

@@ -24,7 +24,7 @@ pub fn words_in(form: Form, line: &[u8]) -> u64
     }
 }
 
-// A record line's bits per word, for another line 0.
+// A record line's bits per word, for another line 0. (Two functions: a definition each, `words_said` and `bits_said`.)
 pub fn bits_in(form: Form, line: &[u8]) -> u64
     ensures { result ≡ bits_said form line.now }
 {

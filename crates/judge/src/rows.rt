@@ -15,7 +15,7 @@ pub const PAIRS: usize = SUBFRAMES + 1;
 pub const ROWS: usize = PARAMETERS + 1;
 
 // Of a parameter: where its texts stand; its subframe and its value; the line of its `PARAMETER:` word; whether it is an
-// identifier, and whether it alone is in order.
+// identifier, and whether it alone is in order. The value stands beside the flag, as in a table's entry: 0 where there is none.
 #[derive(Clone, Copy)]
 pub struct Kept {
     pub places: Places,

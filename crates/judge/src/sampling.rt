@@ -14,6 +14,7 @@ use text::refusal::Refusal;
 
 // The open sample: the bits that its components give, the last one's overlap, the subframe of its first component, whether all lie
 // there. The first sample: its width, subframe and whether all lie there.
+// What there is not yet is 0 and no rule looks at it: so the definitions `Opened` and `Widened` say.
 #[derive(Clone, Copy)]
 pub struct Sampling {
     pub spots: Components,

@@ -15,7 +15,7 @@ use text::part::between;
 use text::refusal::Refusal;
 
 // What is known before a line: what is due, the counts, the open sample, where the open parameter's texts stand, and the line of
-// its `PARAMETER:` word.
+// its `PARAMETER:` word (0, and no places, before there is one).
 #[derive(Clone, Copy)]
 pub struct State {
     pub due: Due,

@@ -14,7 +14,7 @@ use lines::Cursor;
 use text::part::between;
 use text::refusal::Refusal;
 
-// What a sheet is refused for, and at which line.
+// What a sheet is refused for, and at which line: 0 for the whole sheet, as 01 answers.
 #[derive(Clone, Copy)]
 pub struct Rejected {
     pub refusal: Refusal,

@@ -6,7 +6,8 @@ ghost use Rattle.lay.specs.Slots.{plain, long};
 use super::put::{put_eight, put_four, put_one, put_two};
 use super::{eight_at, four_at, one_at, two_at};
 
-// Where an item stands in its entry, and in how many bytes; 0 where the form has no such item.
+// Where an item stands in its entry, and in how many bytes; 0 where the form has no such item:
+// so the definitions of the forms have it.
 #[derive(Clone, Copy)]
 pub struct Place {
     pub at: usize,
@@ -27,7 +28,7 @@ pub fn item_at(t: &[u8], o: usize, p: Place) -> usize
     }
 }
 
-// The same where it may be eight bytes wide.
+// The same where it may be eight bytes wide. (Beside the other: almost every item fits a usize, and its promise says so.)
 pub fn long_at(t: &[u8], o: usize, p: Place) -> u64
     requires wide_in_bounds { o + p.at + p.wide ≤ length t.now }
     requires wide_value { long p.wide ≡ true }

@@ -34,6 +34,8 @@ pub struct Part {
     pub overlap: u64,
 }
 
+// A field that is misspelt says 0 here: the definitions say something of every line, and the line's tests have refused this one.
+
 // The header line: how many subframes, and whether sequential.
 pub fn subframes_in(line: &[u8]) -> u64
     ensures { result ≡ subframes_in line.now }

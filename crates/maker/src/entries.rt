@@ -16,7 +16,7 @@ use stored::forms::{
 use stored::items::{Counts, Starts};
 
 // What a parameter's entry holds: its texts' lengths, its flags, where its text starts within the text part, its first
-// sample and how many it has, and its value as an identifier.
+// sample and how many it has, and its value as an identifier, 0 where it is none: the entry has both.
 #[derive(Clone, Copy)]
 pub struct Described {
     pub name: usize,
