@@ -18,7 +18,7 @@ pub fn has_identifier(flags: usize) -> bool
 pub fn flag_of(t: bool) -> usize
     ensures { (result ≡ bit t) × (result ≤ 1) }
 {
-    if t { 1 } else { 0 }
+    usize::from(t)
 }
 
 pub fn flags_of(signed: bool, identifier: bool) -> usize

@@ -1,56 +1,44 @@
-use mathlib.Core.Path.{◌≡◌, sym, ◌∙◌}
+-- Each test is one that the rule names.
+use mathlib.Core.Path.{refl, sym, ◌∙◌}
 use Prim.Native.Nat.{◌-◌}
 use native.Mathlib.Omega.{arith}
-use borrow.Author.Count.{below_more}
-use lib.ListN.{length, get_or-eq_default}
-use Rattle.lay.proofs.Tests.{refuse, differ}
+use borrow.Author.Rules.{rules}
+use borrow.Author.Tests.{tests, eqb-true, eq-eqb}
+use lib.ListN.{length}
+use Rattle.std.proofs.lemmas.Iterator.{YieldsList-from_slice}
+use Rattle.std.proofs.lemmas.Iterator.Search.{all_from_yields_List}
+use Rattle.lay.proofs.Tests.{refuse, differ, same_tests}
 use Rattle.stored.specs.Shapes.{limits_by}
+use Rattle.model.specs.Rules.{byte_ok}
 use Rattle.model.proofs.Meanings.{byte_law, byte_made, text_law, text_made}
+use Rattle.rules.proofs.ByteTests.{each_byte, all_bytes, space_at}
 use Rattle.rules.proofs.texts.text_ok.Goals as goal
 
-pub returns-then-most-n : goal.returns-then-most-n
-returns-then-most-n c = refuse _ (λ h. let r = text_law (limits_by _) _ h in omega arith)
+pub returns-then-most-text : goal.returns-then-most-text
+returns-then-most-text c = refuse _ (λ h. let r = text_law (limits_by _) _ h in omega arith)
 
-pub loop-i-init : goal.loop-i-init
-loop-i-init c = (omega arith, λ k l. absurd (omega arith))
+pub returns-then-eq : goal.returns-then-eq
+returns-then-eq c =
+    let s = space_at _ _ c.args.text.now 0 c.first.ensures.value refl in
+    refuse _ (λ h. (text_law (limits_by _) _ h).begins (eqb-true _ _ (sym s ∙ sym c.eq.ensures ∙ c.if-eq.true)))
 
-pub returns-then-not-byte_ok : goal.returns-then-not-byte_ok
-returns-then-not-byte_ok c =
-    let l = c.loop-i in
-    refuse _
-    (λ h.
-    differ (sym c.byte_ok.ensures ∙ c.if-not-byte_ok.true) (byte_made _ ((text_law (limits_by _) _ h).each l.i (omega arith))))
-
-pub loop-i-preserved : goal.loop-i-preserved
-loop-i-preserved c =
-    (omega arith, below_more _ _ c.loop-i.invariant.1 (byte_law _ (sym c.byte_ok.ensures ∙ c.if-not-byte_ok.false)))
-
-pub returns-then-n-eq0 : goal.returns-then-n-eq0
-returns-then-n-eq0 c =
-    let t = c.args.text.now in
-    let none : length t ≡ 0 = omega arith in
-    sym
-    (text_made (limits_by _) t
-    (record {
-      short = omega arith;
-      each = λ i l. absurd (omega arith);
-      begins = λ e. omega (arith, get_or-eq_default t 0 {n = 0} (omega arith));
-      ends = λ e. omega (arith, get_or-eq_default t 0 {n = length t - 1} (omega arith));
-    }))
-
-pub returns-then-text-eq32 : goal.returns-then-text-eq32
-returns-then-text-eq32 c = refuse _ (λ h. (text_law (limits_by _) _ h).begins c.if-text-eq32.true)
-
-pub returns-then-text-n-eq32 : goal.returns-then-text-n-eq32
-returns-then-text-n-eq32 c = refuse _ (λ h. (text_law (limits_by _) _ h).ends c.if-text-n-eq32.true)
+pub returns-then-eq-2 : goal.returns-then-eq-2
+returns-then-eq-2 c =
+    let s = space_at _ _ c.args.text.now (length c.args.text.now - 1) c.last.ensures.value refl in
+    refuse _ (λ h. (text_law (limits_by _) _ h).ends (eqb-true _ _ (sym s ∙ sym c.eq-2.ensures ∙ c.if-eq-2.true)))
 
 pub returns : goal.returns
 returns c =
-    sym
-    (text_made (limits_by _) _
+    let s = space_at _ _ c.args.text.now 0 c.first.ensures.value refl in
+    let z = space_at _ _ c.args.text.now (length c.args.text.now - 1) c.last.ensures.value refl in
+    all_from_yields_List byte_ok _ _ _ c.all.ensures.ran (YieldsList-from_slice c.args.text.now cc) (λ x b q k. search (rules, tests))
+    ∙ same_tests _ _
+    (λ h.
+    text_made (limits_by _) _
     (record {
-      short = omega arith;
-      each = λ i l. c.loop-i.invariant.1 i (omega arith);
-      begins = c.if-text-eq32.false;
-      ends = c.if-text-n-eq32.false;
+      short = c.if-most-text.false;
+      each = λ i l. byte_law _ (each_byte _ h i l);
+      begins = λ e. differ (sym s ∙ sym c.eq.ensures ∙ c.if-eq.false) (eq-eqb _ _ e);
+      ends = λ e. differ (sym z ∙ sym c.eq-2.ensures ∙ c.if-eq-2.false) (eq-eqb _ _ e);
     }))
+    (λ h. all_bytes _ (λ i l. byte_made _ ((text_law (limits_by _) _ h).each i l)))

@@ -1,8 +1,10 @@
 -- Each offset is where its part begins.
 use mathlib.Core.Path.{◌≡◌, sym, ◌∙◌}
 use native.Mathlib.Omega.{arith}
+use borrow.Author.Tests.{eqb-true, eq-eqb, leb-true, le-leb}
 use Prim.Native.Nat.{ℕ}
-use Rattle.lay.proofs.Tests.{refuse}
+use lib.Dec.{eqb}
+use Rattle.lay.proofs.Tests.{and_0, and_1, and_both, refuse, differ, same_tests}
 use Rattle.lay.specs.Layout.{offset_by}
 use Rattle.model.specs.Forms.{layout_in}
 use Rattle.model.specs.Stored.{count_in, offset_in}
@@ -11,43 +13,35 @@ use Rattle.model.proofs.Laying.{offsets, offsets_made}
 use Rattle.stored.proofs.Reading.{told_start}
 use Rattle.stored.proofs.layout.offsets_ok.Goals as goal
 
-pub returns-then-h-at : goal.returns-then-h-at
-returns-then-h-at c =
-    let w = told_start c.args.b.now.formed 0 (omega arith) in
-    refuse _ (λ h. let r = (offsets _ h).each 0 (omega arith) in omega (arith, r, w, c.header_of-h.ensures.subframes_is, c.requires.starts_of.subframes_is, c.if-h-at.true))
-
-pub returns-then-h-at-2 : goal.returns-then-h-at-2
-returns-then-h-at-2 c =
-    let w = told_start c.args.b.now.formed 1 (omega arith) in
-    refuse _ (λ h. let r = (offsets _ h).each 1 (omega arith) in omega (arith, r, w, c.header_of-h.ensures.parameters_is, c.requires.starts_of.parameters_is, c.if-h-at-2.true))
-
-pub returns-then-h-at-3 : goal.returns-then-h-at-3
-returns-then-h-at-3 c =
-    let w = told_start c.args.b.now.formed 2 (omega arith) in
-    refuse _ (λ h. let r = (offsets _ h).each 2 (omega arith) in omega (arith, r, w, c.header_of-h.ensures.samples_is, c.requires.starts_of.samples_is, c.if-h-at-3.true))
-
-pub returns-then-h-at-4 : goal.returns-then-h-at-4
-returns-then-h-at-4 c =
-    let w = told_start c.args.b.now.formed 3 (omega arith) in
-    refuse _ (λ h. let r = (offsets _ h).each 3 (omega arith) in omega (arith, r, w, c.header_of-h.ensures.components_is, c.requires.starts_of.components_is, c.if-h-at-4.true))
-
-pub returns-then-h-at-5 : goal.returns-then-h-at-5
-returns-then-h-at-5 c = refuse _ (λ h. let r = (offsets _ h).text in omega (arith, r, c.header_of-h.ensures.text_is, c.requires.starts_of.text_is, c.if-h-at-5.true))
-
-pub returns-then-b-at : goal.returns-then-b-at
-returns-then-b-at c = refuse _ (λ h. let r = (offsets _ h).fits in omega (arith, r, c.requires.starts_of.text_is, c.if-b-at.true))
-
-pub returns : goal.returns
-returns c =
+pub returns-then-eq : goal.returns-then-eq
+returns-then-eq c =
     let e = c.header_of-h.ensures in
     let s = c.requires.starts_of in
     let w = told_start c.args.b.now.formed in
-    sym
-    (offsets_made _
-    (record {
-      each =
-          each_part (λ (p : ℕ). offset_in _ p ≡ offset_by (layout_in _) (count_in _) p)
-          (sym e.subframes_is ∙ c.if-h-at.false ∙ s.subframes_is ∙ sym (w 0 (omega arith)), (sym e.parameters_is ∙ c.if-h-at-2.false ∙ s.parameters_is ∙ sym (w 1 (omega arith)), (sym e.samples_is ∙ c.if-h-at-3.false ∙ s.samples_is ∙ sym (w 2 (omega arith)), (sym e.components_is ∙ c.if-h-at-4.false ∙ s.components_is ∙ sym (w 3 (omega arith)), tt))));
-      text = sym e.text_is ∙ c.if-h-at-5.false ∙ s.text_is;
-      fits = omega (arith, s.text_is, c.if-b-at.false);
-    }))
+    let h = c.header_of-h.result in
+    let a = c.args.at in
+    let q0 = sym c.eq.ensures ∙ c.if-eq.true in
+    let q1 = and_1 (eqb h.subframes a.subframes) _ q0 in
+    let q2 = and_1 (eqb h.parameters a.parameters) _ q1 in
+    let q3 = and_1 (eqb h.samples a.samples) _ q2 in
+    let each =
+    each_part (λ (p : ℕ). offset_in _ p ≡ offset_by (layout_in _) (count_in _) p)
+    (sym e.subframes_is ∙ eqb-true _ _ (and_0 _ _ q0) ∙ s.subframes_is ∙ sym (w 0 (omega arith)), (sym e.parameters_is ∙ eqb-true _ _ (and_0 _ _ q1) ∙ s.parameters_is ∙ sym (w 1 (omega arith)), (sym e.samples_is ∙ eqb-true _ _ (and_0 _ _ q2) ∙ s.samples_is ∙ sym (w 2 (omega arith)), (sym e.components_is ∙ eqb-true _ _ (and_0 _ _ q3) ∙ s.components_is ∙ sym (w 3 (omega arith)), tt)))) in
+    same_tests _ _
+    (λ l. offsets_made _ (record { each = each; text = sym e.text_is ∙ eqb-true _ _ (and_1 _ _ q3) ∙ s.text_is; fits = omega (arith, s.text_is, leb-true _ _ l) }))
+    (λ h. let r = (offsets _ h).fits in le-leb _ _ (omega (arith, r, s.text_is)))
+
+pub returns-else-eq : goal.returns-else-eq
+returns-else-eq c =
+    let e = c.header_of-h.ensures in
+    let s = c.requires.starts_of in
+    let w = told_start c.args.b.now.formed in
+    c.if-eq.false
+    ∙ refuse _
+    (λ h.
+    let r = offsets _ h in
+    differ (sym c.eq.ensures ∙ c.if-eq.false)
+    (and_both (eq-eqb _ _ (e.subframes_is ∙ r.each 0 (omega arith) ∙ w 0 (omega arith) ∙ sym s.subframes_is))
+    (and_both (eq-eqb _ _ (e.parameters_is ∙ r.each 1 (omega arith) ∙ w 1 (omega arith) ∙ sym s.parameters_is))
+    (and_both (eq-eqb _ _ (e.samples_is ∙ r.each 2 (omega arith) ∙ w 2 (omega arith) ∙ sym s.samples_is))
+    (and_both (eq-eqb _ _ (e.components_is ∙ r.each 3 (omega arith) ∙ w 3 (omega arith) ∙ sym s.components_is)) (eq-eqb _ _ (e.text_is ∙ r.text ∙ sym s.text_is)))))))
