@@ -1,6 +1,6 @@
 use mathlib.Core.Path.{◌≡◌, sym, ap, ◌∙◌}
 use mathlib.Core.List.{List}
-use Prim.Native.Nat.{ℕ}
+use Prim.Native.Nat.{ℕ, ◌<◌}
 use native.Mathlib.Nat.{not-suc-le-zero}
 use native.Mathlib.Omega.{arith}
 use borrow.Author.Count.{below_more}
@@ -8,7 +8,7 @@ use Rattle.lay.specs.Bytes.{same}
 use Rattle.lay.proofs.Below.{find_none, find_at}
 use Rattle.model.specs.Stored.{parameters_in}
 use Rattle.model.proofs.Laying.{parameter_here}
-use Rattle.table.proofs.Asking.{called_at, found}
+use Rattle.table.proofs.Asking.{called_at, found, mnemonic_first, mnemonic_none}
 use Rattle.table.proofs.naming.find_mnemonic.Goals as goal
 
 pub loop-i-init : goal.loop-i-init
@@ -25,7 +25,8 @@ returns-then-same_text c =
     let v = c.loop-i.invariant in
     let i = c.loop-i.i in
     let q = ap (λ (x : List ℕ). same x m) c.mnemonic_in.ensures in
-    sym (found b m ∙ find_at (parameters_in b) (called_at b m) i (omega (arith, v, c.loop-i-test.true)) (sym q ∙ sym c.same_text.ensures ∙ c.if-same_text.true) v.none)
+    let l : i < parameters_in b = omega (arith, v, c.loop-i-test.true) in
+    mnemonic_first b m i l (found b m ∙ find_at (parameters_in b) (called_at b m) i l (sym q ∙ sym c.same_text.ensures ∙ c.if-same_text.true) v.none)
 
 pub loop-i-preserved : goal.loop-i-preserved
 loop-i-preserved c =
@@ -45,4 +46,4 @@ returns c =
     let m = c.args.mnemonic.now in
     let v = c.loop-i.invariant in
     let full : c.loop-i.i ≡ parameters_in b = omega (arith, v, c.loop-i-test.false) in
-    v.counted ∙ sym (found b m ∙ find_none (parameters_in b) (called_at b m) (λ k l. v.none k (omega (arith, full))))
+    mnemonic_none b m (found b m ∙ find_none (parameters_in b) (called_at b m) (λ k l. v.none k (omega (arith, full))))
