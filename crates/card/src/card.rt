@@ -10,7 +10,7 @@ use super::search::position_from;
 use super::spanned::SpannedTable;
 use super::spans::span_of;
 use carding::carded::{Found, LONGEST_STREAM};
-use rules::bases::frame_words;
+use rules::bases::{based, frame_words};
 use rules::ruled::RuledTable;
 use table::check::opening;
 use table::reason::Reason;
@@ -26,7 +26,7 @@ fn search(r: &RuledTable, stream: &[u8], from: usize, words: &mut [u16]) -> Resu
     let begins = span.begins;
     let s = SpannedTable { ruled: *r, begins };
     let position = position_from(&s, stream, from, span.bits).ok_or(Reason::NoFrame)?;
-    let count = frame_words(r);
+    let count = frame_words(&based(r));
     if words.len() < count {
         return Err(Reason::FewWords);
     }

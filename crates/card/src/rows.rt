@@ -66,13 +66,20 @@ impl Sieve {
     }
 
     // One more row, if there is room: the sieve may let a position pass, never keep back a frame.
-    pub fn with(mut self, row: Row) -> Sieve
-        ensures { With (rows_of self) row (rows_of result) }
+    pub fn add(&mut self, row: Row)
+        ensures { With (rows_of self.old) row (rows_of self.new) }
     {
         if self.count < ROWS {
             self.list[self.count] = row;
             self.count += 1;
         }
+    }
+
+    // The same of a sieve that is handed on.
+    pub fn with(mut self, row: Row) -> Sieve
+        ensures { With (rows_of self) row (rows_of result) }
+    {
+        self.add(row);
         self
     }
 }

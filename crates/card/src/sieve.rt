@@ -12,31 +12,30 @@ use super::spanned::SpannedTable;
 use super::spans::run_at;
 use stored::flags::has_identifier;
 
-// The rows of parameter i, if it is an identifier: its value's bits, component by component.
+// The rows of parameter i, if it is an identifier: its value's bits, component by component. (The sieve is lent: handed on by value
+// it would stand in the stack once for each step.)
 #[tactic(auto, using(crate::proofs::Runs::place_narrow))]
-fn sift_more(s: &SpannedTable, i: usize, sieve: Sieve) -> Sieve
+fn sift_more(s: &SpannedTable, i: usize, sieve: &mut Sieve)
     requires i_bound { i < parameters_in s.now.ruled.declared.table.bytes.now }
-    requires sieve_of { SieveOf s.now.ruled.declared.table.bytes.now (rows_of sieve) }
-    ensures { SieveOf s.now.ruled.declared.table.bytes.now (rows_of result) }
+    requires sieve_of { SieveOf s.now.ruled.declared.table.bytes.now (rows_of sieve.old) }
+    ensures { SieveOf s.now.ruled.declared.table.bytes.now (rows_of sieve.new) }
 {
     let e = s.ruled.declared.table.parameter_at(i);
     if !has_identifier(e.flags) {
-        return sieve;
+        return;
     }
     let m = s.ruled.declared.table.sample_at(e.first);
     let v = e.value as u64;
-    let mut more = sieve;
     let mut at: u32 = 0;
     for k in 0..m.count {
         let c = run_at(&s.ruled.declared, m.first + k, &s.begins);
-        more = more.with(Row {
+        sieve.add(Row {
             at: c.at,
             width: c.bits,
             want: bits::field_of(v, at, c.bits),
         });
         at += c.given;
     }
-    more
 }
 
 pub fn sieve_of(s: &SpannedTable) -> Sieve
@@ -44,7 +43,7 @@ pub fn sieve_of(s: &SpannedTable) -> Sieve
 {
     let mut sieve = Sieve::none();
     for i in 0..s.ruled.declared.table.opened.counts.parameters {
-        sieve = sift_more(s, i, sieve);
+        sift_more(s, i, &mut sieve);
     }
     sieve
 }

@@ -11,8 +11,8 @@ use frame::sized::Frame;
 use intake::say::{put, text};
 use listed::cards::{CARD_ROWS, put_card_heading, put_card_rows};
 use listed::listing::put_refused;
-use rules::bases::frame_words;
-use rules::ruled::RuledTable;
+use rules::based::BasedTable;
+use rules::bases::{based, frame_words};
 use table::check::opening;
 use table::reason::{Reason, reason_number};
 
@@ -20,7 +20,7 @@ use table::reason::{Reason, reason_number};
 // told nothing.
 fn rows(rt: &HostRuntime, f: &Frame, position: u32) {
     let mut out = [0u8; CARD_ROWS];
-    for i in 0..f.ruled.declared.table.opened.counts.parameters {
+    for i in 0..f.based.ruled.declared.table.opened.counts.parameters {
         let n = put_card_rows(f, position, i, &mut out);
         text(rt, &out[..n]);
     }
@@ -33,22 +33,23 @@ pub fn refused(rt: &HostRuntime, number: u32, line: u32) {
 
 // The frame at the first position, whose words are there, and those behind it: each is looked for behind the last bit of the
 // one before, until there is none.
-fn frames(rt: &HostRuntime, r: &RuledTable, stream: &[u8], first: u32, words: &mut [u16])
-    requires told { (margins_told r.now.declared.table.bytes.now ≡ true) × (length stream.now ≤ longest_stream) }
-    requires t_bound { first + frame_bits (view r.now.declared.table.bytes.now) ≤ 8 * length stream.now }
-    requires t_in_bounds { frame_words (view r.now.declared.table.bytes.now) ≤ length words.old }
+fn frames(rt: &HostRuntime, b: &BasedTable, stream: &[u8], first: u32, words: &mut [u16])
+    requires told { (margins_told b.now.ruled.declared.table.bytes.now ≡ true) × (length stream.now ≤ longest_stream) }
+    requires t_bound { first + frame_bits (view b.now.ruled.declared.table.bytes.now) ≤ 8 * length stream.now }
+    requires t_in_bounds { frame_words (view b.now.ruled.declared.table.bytes.now) ≤ length words.old }
 {
-    let count = frame_words(r);
-    let span = span_of(&r.declared);
+    let count = frame_words(b);
+    let span = span_of(&b.ruled.declared);
     let bits = span.bits as u32;
     let mut position = first;
     loop {
         let frame = Frame {
-            ruled: r,
+            based: b,
             words: &words[..count],
         };
         rows(rt, &frame, position);
-        let Ok(next) = card_from(r.declared.table.bytes, stream, position + bits, words) else {
+        let Ok(next) = card_from(b.ruled.declared.table.bytes, stream, position + bits, words)
+        else {
             return;
         };
         position = next.position;
@@ -60,7 +61,7 @@ fn carded(rt: &HostRuntime, t: &[u8], stream: &[u8], words: &mut [u16]) -> Resul
     let r = opening(t).ok_or(Reason::NoTable)?;
     let found = card(t, stream, words)?;
     put::<37, _>(rt, |out| put_card_heading(out));
-    frames(rt, &r, stream, found.position, words);
+    frames(rt, &based(&r), stream, found.position, words);
     Ok(())
 }
 

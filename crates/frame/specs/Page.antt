@@ -6,7 +6,7 @@ use Rattle.frame.specs.declared.found.Page.{Page}
 -- of a table's bytes and a frame's words
 pub record Opened (t w : List ℕ) (g : Page) : Type 0 where
   pub accepted : accepts t ≡ true
-  pub bytes : g.table.declared.table.bytes.now ≡ t
+  pub bytes : g.table.ruled.declared.table.bytes.now ≡ t
   pub words : g.words.now ≡ w
 
 -- nothing where the bytes are no table

@@ -4,13 +4,13 @@ ghost use Rattle.std.proofs.Props.{props};
 ghost use Rattle.model.specs.View.{view};
 ghost use Rattle.framing.specs.Fitting.{fit_of};
 
-use rules::ruled::RuledTable;
+use rules::based::BasedTable;
 use table::reason::Reason;
 
 #[derive(Clone, Copy)]
 pub struct Page<'t> {
-    pub table: RuledTable<'t>,
+    pub table: BasedTable<'t>,
     pub words: &'t [u16],
     pub fit: Result<(), Reason>,
-    pub ghost fit_value: { fit ≡ fit_of (view table.declared.table.bytes.now) words.now },
+    pub ghost fit_value: { fit ≡ fit_of (view table.ruled.declared.table.bytes.now) words.now },
 }

@@ -6,9 +6,10 @@ ghost use Rattle.frame.specs.Page.{PageOf};
 
 use super::fit::fit_of;
 use super::found::Page;
-use super::read::read_in;
+use super::read::read_numbered;
 use framing::page::Outcome;
 use framing::read::Reading;
+use rules::bases::based;
 use table::check::opening;
 use table::reason::{Reason, answer_number};
 
@@ -16,7 +17,8 @@ use table::reason::{Reason, answer_number};
 pub fn page_of<'t>(t: &'t [u8], words: &'t [u16]) -> Option<Page<'t>>
     ensures { PageOf t.now words.now result }
 {
-    let table = opening(t)?;
+    let r = opening(t)?;
+    let table = based(&r);
     let fit = fit_of(&table, words);
     Some(Page { table, words, fit })
 }
@@ -57,7 +59,7 @@ fn read_by(page: &Option<Page>, parameter: u32, sample: u32) -> Result<Reading, 
     ensures { (t w : List ℕ) → PageOf t w page.now → result ≡ read_of t w parameter sample }
 {
     match page {
-        Some(p) => read_in(&p.table, p.words, p.fit, parameter, sample),
+        Some(p) => read_numbered(&p.table, p.words, p.fit, parameter, sample),
         None => Err(Reason::NoTable),
     }
 }

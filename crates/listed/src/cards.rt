@@ -27,10 +27,10 @@ pub fn put_card_heading(out: &mut [u8]) -> usize
 
 // The row of sample j of parameter i, both counted from 0, at o: the position, then the listing's row.
 fn put_card_row(f: &Frame, position: u32, i: usize, j: usize, out: &mut [u8], o: usize) -> usize
-    requires i_bound { i < parameters_in f.now.ruled.now.declared.table.bytes.now }
-    requires j_bound { j < sample_count_in f.now.ruled.now.declared.table.bytes.now i }
+    requires i_bound { i < parameters_in f.now.based.now.ruled.declared.table.bytes.now }
+    requires j_bound { j < sample_count_in f.now.based.now.ruled.declared.table.bytes.now i }
     requires card_row_most_in_bounds { o + card_row_most ≤ length out.old }
-    ensures { (result ≡ o + length (card_row (view f.now.ruled.now.declared.table.bytes.now) f.now.words.now position i j)) × (out.new ≡ put out.old o (card_row (view f.now.ruled.now.declared.table.bytes.now) f.now.words.now position i j)) }
+    ensures { (result ≡ o + length (card_row (view f.now.based.now.ruled.declared.table.bytes.now) f.now.words.now position i j)) × (out.new ≡ put out.old o (card_row (view f.now.based.now.ruled.declared.table.bytes.now) f.now.words.now position i j)) }
 {
     let a = put_field(out, o, position as u64, 44);
     put_sample(f, i, j, out, a)
@@ -38,12 +38,12 @@ fn put_card_row(f: &Frame, position: u32, i: usize, j: usize, out: &mut [u8], o:
 
 // All rows of parameter i, counted from 0.
 pub fn put_card_rows(f: &Frame, position: u32, i: usize, out: &mut [u8]) -> usize
-    requires i_bound { i < parameters_in f.now.ruled.now.declared.table.bytes.now }
+    requires i_bound { i < parameters_in f.now.based.now.ruled.declared.table.bytes.now }
     requires card_rows_most_in_bounds { card_rows_most ≤ length out.old }
-    ensures value { (result ≡ length (card_rows (view f.now.ruled.now.declared.table.bytes.now) f.now.words.now position i)) × (out.new ≡ put out.old 0 (card_rows (view f.now.ruled.now.declared.table.bytes.now) f.now.words.now position i)) }
+    ensures value { (result ≡ length (card_rows (view f.now.based.now.ruled.declared.table.bytes.now) f.now.words.now position i)) × (out.new ≡ put out.old 0 (card_rows (view f.now.based.now.ruled.declared.table.bytes.now) f.now.words.now position i)) }
     ensures prefix_len { IsPrefixLen result out.new }
 {
-    let e = f.ruled.declared.table.parameter_at(i);
+    let e = f.based.ruled.declared.table.parameter_at(i);
     let count = e.count;
     let mut at = 0;
     for j in 0..count {

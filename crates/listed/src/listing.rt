@@ -5,7 +5,7 @@ ghost use Rattle.lay.specs.Bytes.{put};
 ghost use Rattle.model.specs.Stored.{parameters_in, sample_count_in, name_in};
 ghost use Rattle.model.specs.View.{view};
 ghost use Rattle.listed.specs.Lines.{row_text};
-ghost use Rattle.listed.specs.Listing.{heading_text, sample_row, row_most, parameter_rows, rows_most, refused_text, words_of};
+ghost use Rattle.listed.specs.Listing.{heading_text, sample_row, row_most, parameter_rows, rows_most, refused_text, fit_number, words_of};
 
 use crate::rows::{put_field, put_part, put_row};
 use frame::read::sample_in;
@@ -15,6 +15,7 @@ use lay::put::put_text;
 use model::limits::{SAMPLES_EACH, TEXT};
 use rules::ruled::RuledTable;
 use rules::texts::name_in;
+use table::reason::{Reason, answer_number};
 
 // Enough for any row beside its name, any row, and any parameter's rows.
 const BESIDE: usize = 86;
@@ -44,6 +45,14 @@ pub fn put_refused(out: &mut [u8], number: u32, line: u32) -> usize
     put_field(out, b, line as u64, 10)
 }
 
+// 01's number of a frame's fit: 0 where it fits.
+#[tactic(auto, unfolding(crate::specs::Listing::fit_number))]
+pub fn fit_number(fit: Result<(), Reason>) -> u32
+    ensures { result ≡ fit_number fit }
+{
+    answer_number(&fit)
+}
+
 // The row of what was read of sample j of parameter i, both counted from 0, at o.
 fn put_read(
     r: &RuledTable,
@@ -66,30 +75,30 @@ fn put_read(
 
 // The row of that sample, whether its copies agree or not.
 pub fn put_sample(f: &Frame, i: usize, j: usize, out: &mut [u8], o: usize) -> usize
-    requires i_bound { i < parameters_in f.now.ruled.now.declared.table.bytes.now }
-    requires j_bound { j < sample_count_in f.now.ruled.now.declared.table.bytes.now i }
+    requires i_bound { i < parameters_in f.now.based.now.ruled.declared.table.bytes.now }
+    requires j_bound { j < sample_count_in f.now.based.now.ruled.declared.table.bytes.now i }
     requires row_most_in_bounds { o + row_most ≤ length out.old }
-    ensures { (result ≡ o + length (sample_row (view f.now.ruled.now.declared.table.bytes.now) f.now.words.now i j)) × (out.new ≡ put out.old o (sample_row (view f.now.ruled.now.declared.table.bytes.now) f.now.words.now i j)) }
+    ensures { (result ≡ o + length (sample_row (view f.now.based.now.ruled.declared.table.bytes.now) f.now.words.now i j)) × (out.new ≡ put out.old o (sample_row (view f.now.based.now.ruled.declared.table.bytes.now) f.now.words.now i j)) }
 {
     // Two arms: of one pattern for both, which binds a signed number, the proof did not close.
     match sample_in(f, i, j) {
         Reading::Sample { raw, width, value } => {
-            put_read(f.ruled, i, j, raw, width, value, out, o)
+            put_read(&f.based.ruled, i, j, raw, width, value, out, o)
         }
         Reading::OverlapDiffers { raw, width, value } => {
-            put_read(f.ruled, i, j, raw, width, value, out, o)
+            put_read(&f.based.ruled, i, j, raw, width, value, out, o)
         }
     }
 }
 
 // All rows of parameter i, counted from 0.
 pub fn put_parameter(f: &Frame, i: usize, out: &mut [u8]) -> usize
-    requires i_bound { i < parameters_in f.now.ruled.now.declared.table.bytes.now }
+    requires i_bound { i < parameters_in f.now.based.now.ruled.declared.table.bytes.now }
     requires rows_most_in_bounds { rows_most ≤ length out.old }
-    ensures value { (result ≡ length (parameter_rows (view f.now.ruled.now.declared.table.bytes.now) f.now.words.now i)) × (out.new ≡ put out.old 0 (parameter_rows (view f.now.ruled.now.declared.table.bytes.now) f.now.words.now i)) }
+    ensures value { (result ≡ length (parameter_rows (view f.now.based.now.ruled.declared.table.bytes.now) f.now.words.now i)) × (out.new ≡ put out.old 0 (parameter_rows (view f.now.based.now.ruled.declared.table.bytes.now) f.now.words.now i)) }
     ensures prefix_len { IsPrefixLen result out.new }
 {
-    let e = f.ruled.declared.table.parameter_at(i);
+    let e = f.based.ruled.declared.table.parameter_at(i);
     let count = e.count;
     let mut at = 0;
     for j in 0..count {

@@ -3,14 +3,15 @@ use bench::texts::words_of;
 use frame::fit::fit_of;
 use frame::sized::Frame;
 use intake::say::{put, text};
-use listed::listing::{ROWS, put_heading, put_parameter, put_refused};
+use listed::listing::{ROWS, fit_number, put_heading, put_parameter, put_refused};
+use rules::bases::based;
 use table::check::opening;
-use table::reason::{Reason, reason_number};
+use table::reason::Reason;
 
 // The rows of each parameter. They stand in a buffer here: of a closure that captures a frame `put` is told nothing.
 fn rows(rt: &HostRuntime, f: &Frame) {
     let mut out = [0u8; ROWS];
-    for i in 0..f.ruled.declared.table.opened.counts.parameters {
+    for i in 0..f.based.ruled.declared.table.opened.counts.parameters {
         let n = put_parameter(f, i, &mut out);
         text(rt, &out[..n]);
     }
@@ -24,9 +25,10 @@ pub fn refused(rt: &HostRuntime, number: u32, line: u32) {
 #[tactic(auto, using(framing::proofs::WantCases::fits_long))]
 fn fitted(rt: &HostRuntime, t: &[u8], words: &[u16]) -> Result<(), Reason> {
     let r = opening(t).ok_or(Reason::NoTable)?;
-    fit_of(&r, words)?;
+    let b = based(&r);
+    fit_of(&b, words)?;
     put::<28, _>(rt, |out| put_heading(out));
-    rows(rt, &Frame { ruled: &r, words });
+    rows(rt, &Frame { based: &b, words });
     Ok(())
 }
 
@@ -37,7 +39,8 @@ pub fn show(rt: &HostRuntime, t: &[u8], frame: &[u8], words: &mut [u16]) {
     if number != 0 {
         return refused(rt, number, 0);
     }
-    if let Err(reason) = fitted(rt, t, &words[..frame.len() / 2]) {
-        refused(rt, reason_number(reason), 0);
+    let number = fit_number(fitted(rt, t, &words[..frame.len() / 2]));
+    if number != 0 {
+        refused(rt, number, 0);
     }
 }

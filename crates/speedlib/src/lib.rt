@@ -8,13 +8,14 @@ use frame::fit::fit_of;
 use frame::read::sample_in;
 use frame::sized::Frame;
 use framing::read::Reading;
-use rules::ruled::RuledTable;
+use rules::based::BasedTable;
+use rules::bases::based;
 use table::check::opening;
 
 // Sample j of parameter i, both counted from 0.
 fn value_in(f: &Frame, i: usize, j: usize) -> i64
-    requires i_bound { i < parameters_in f.now.ruled.now.declared.table.bytes.now }
-    requires j_bound { j < sample_count_in f.now.ruled.now.declared.table.bytes.now i }
+    requires i_bound { i < parameters_in f.now.based.now.ruled.declared.table.bytes.now }
+    requires j_bound { j < sample_count_in f.now.based.now.ruled.declared.table.bytes.now i }
 {
     match sample_in(f, i, j) {
         Reading::Sample { value, .. } | Reading::OverlapDiffers { value, .. } => value,
@@ -23,10 +24,11 @@ fn value_in(f: &Frame, i: usize, j: usize) -> i64
 
 // The samples of parameter i, as far as there is room; answers how many.
 fn parameter_values(f: &Frame, i: usize, values: &mut [i64]) -> usize
-    requires i_bound { i < parameters_in f.now.ruled.now.declared.table.bytes.now }
+    requires i_bound { i < parameters_in f.now.based.now.ruled.declared.table.bytes.now }
     ensures { result ≤ length values.old }
 {
     let count = f
+        .based
         .ruled
         .declared
         .table
@@ -42,7 +44,7 @@ fn parameter_values(f: &Frame, i: usize, values: &mut [i64]) -> usize
 // The samples of every parameter, one after the other.
 fn all_values(f: &Frame, values: &mut [i64]) -> usize {
     let mut at = 0;
-    for i in 0..f.ruled.declared.table.opened.counts.parameters {
+    for i in 0..f.based.ruled.declared.table.opened.counts.parameters {
         at += parameter_values(f, i, &mut values[at..]);
     }
     at
@@ -50,9 +52,9 @@ fn all_values(f: &Frame, values: &mut [i64]) -> usize {
 
 // A frame, with its words judged; none of its samples where it is refused.
 #[tactic(auto, using(framing::proofs::WantCases::fits_long))]
-fn frame_values(r: &RuledTable, words: &[u16], values: &mut [i64]) -> usize {
-    match fit_of(r, words) {
-        Ok(_) => all_values(&Frame { ruled: r, words }, values),
+fn frame_values(b: &BasedTable, words: &[u16], values: &mut [i64]) -> usize {
+    match fit_of(b, words) {
+        Ok(_) => all_values(&Frame { based: b, words }, values),
         Err(_) => 0,
     }
 }
@@ -68,9 +70,10 @@ pub extern "C" fn speed_read_all(
     let Some(r) = opening(table) else {
         return 0;
     };
+    let b = based(&r);
     let mut count = 0;
     for _ in 0..times {
-        count = frame_values(&r, words, values);
+        count = frame_values(&b, words, values);
     }
     count
 }

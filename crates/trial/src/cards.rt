@@ -1,4 +1,5 @@
 // Kinds 8 and 10: the first frame of a card, and the first from a bit on.
+use crate::say::line;
 use crate::sum::of_items;
 use bench::cards::{card, card_from, card_number};
 use carding::carded::Found;
@@ -21,5 +22,6 @@ pub fn card_line(
         count: 0,
     });
     let sum = of_items(lent);
-    let _ = println!(rt; "{kind} {number} {position} {count} {sum}");
+    let said = [kind, number.into(), position.into(), count.into()];
+    line(rt, &said, sum);
 }

@@ -1,5 +1,6 @@
 // Kinds 3, 4 and 5: a frame read, filled and compared by a table.
 use crate::case::Frame;
+use crate::say::{line, value_line};
 use crate::sum::of_items;
 use bench::frames::{compare, compare_number, place, place_number, read, read_number};
 use bench::texts::words_of;
@@ -23,13 +24,14 @@ pub fn read_line(rt: &HostRuntime, table: &[u8], words: &[u16], of: Request) {
         Ok(Reading::OverlapDiffers { raw, width, value }) => (2, width, raw, value),
         Err(_) => (0, 0, 0, 0),
     };
-    let _ = println!(rt; "3 {number} {kind} {width} {raw} {value}");
+    let said = [3, number.into(), kind, width.into(), raw.into()];
+    value_line(rt, &said, value);
 }
 
 pub fn place_line(rt: &HostRuntime, table: &[u8], words: &mut [u16], of: Request, value: u64) {
     let number = place_number(place(table, words, of.parameter, of.sample, value));
     let sum = of_items(words);
-    let _ = println!(rt; "4 {number} {sum}");
+    line(rt, &[4, number.into()], sum);
 }
 
 // With the subframe that differs, or 0.
@@ -37,5 +39,5 @@ pub fn compare_line(rt: &HostRuntime, table: &[u8], words: &[u16]) {
     let answer = compare(table, words);
     let number = compare_number(answer);
     let subframe = answer.ok().flatten().unwrap_or(0);
-    let _ = println!(rt; "5 {number} {subframe}");
+    line(rt, &[5, number.into()], subframe as u64);
 }

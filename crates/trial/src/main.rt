@@ -8,6 +8,7 @@ mod cursor;
 mod frames;
 mod make;
 mod pages;
+mod say;
 mod sum;
 mod tables;
 

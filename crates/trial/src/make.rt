@@ -1,4 +1,5 @@
 // Kind 1: a sheet, and how many bytes are lent for its table.
+use crate::say::line;
 use crate::sum::of_items;
 use bench::sheets::{make, make_number};
 
@@ -9,5 +10,5 @@ pub fn make_line(rt: &HostRuntime, sheet: &[u8], lent: &mut [u8]) {
     let number = make_number(made);
     let at = made.unwrap_or_else(|rejected| rejected.line as usize);
     let sum = of_items(lent);
-    let _ = println!(rt; "1 {number} {at} {sum}");
+    line(rt, &[1, number.into(), at as u64], sum);
 }

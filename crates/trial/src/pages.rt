@@ -1,5 +1,8 @@
 // Kind 9: a page of reads.
+ghost use Rattle.std.specs.Prelude.{◌≤◌, length};
+
 use crate::cursor::Cursor;
+use crate::say::line;
 use crate::sum::Sum;
 use bench::pages::read_page;
 use framing::page::{Outcome, Paged, Request};
@@ -10,7 +13,9 @@ const KEPT: usize = 257;
 const SLOTS: usize = 2000;
 
 // The requests that the bytes spell, two numbers each, at the front of the lent ones, as far as there is room.
-fn requests_of<'r>(bytes: &[u8], lent: &'r mut [Request]) -> &'r [Request] {
+fn requests_of<'r>(bytes: &[u8], lent: &'r mut [Request; KEPT]) -> &'r [Request]
+    ensures { length result.now ≤ 257 }
+{
     let mut c = Cursor { rest: bytes };
     for (n, slot) in lent.iter_mut().enumerate() {
         let Some(request) = c.request() else {
@@ -50,6 +55,6 @@ pub fn page_line(
     let lent = results.get_mut(..lent)?;
     let Paged { number, count } = read_page(table, words, requests_of(asked, &mut requests), lent);
     let sum = of_results(lent);
-    let _ = println!(rt; "9 {number} {count} {sum}");
+    line(rt, &[9, number.into(), count.into()], sum);
     Some(())
 }

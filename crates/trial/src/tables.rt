@@ -2,6 +2,7 @@
 ghost use Rattle.std.specs.Prelude.{◌≡◌};
 ghost use Rattle.table.specs.Answers.{asked_number, asked_mnemonic, AskedHere, place_answered};
 
+use crate::say::line;
 use bench::tables::{check, check_number, name, name_by, name_by_number, name_number};
 use stored::table::Table;
 use table::check::opening;
@@ -10,7 +11,7 @@ use table::reason::Reason;
 
 pub fn check_line(rt: &HostRuntime, table: &[u8]) {
     let number = check_number(check(table));
-    let _ = println!(rt; "2 {number}");
+    line(rt, &[2], number.into());
 }
 
 // A slice doesn't say where it stands: the place comes from the parameter's entry. 0 where refused.
@@ -42,7 +43,7 @@ pub fn name_line(rt: &HostRuntime, table: &[u8], parameter: u32) {
     let number = name_number(table, parameter);
     let start = start_of(table, parameter);
     let length = name(table, parameter).len();
-    let _ = println!(rt; "6 {number} {start} {length}");
+    line(rt, &[6, number.into(), start as u64], length as u64);
 }
 
 fn start_by(t: &[u8], mnemonic: &[u8]) -> usize
@@ -61,5 +62,5 @@ pub fn mnemonic_line(rt: &HostRuntime, table: &[u8], mnemonic: &[u8]) {
     let number = name_by_number(table, mnemonic);
     let start = start_by(table, mnemonic);
     let length = name_by(table, mnemonic).len();
-    let _ = println!(rt; "7 {number} {start} {length}");
+    line(rt, &[7, number.into(), start as u64], length as u64);
 }

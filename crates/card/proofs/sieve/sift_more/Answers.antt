@@ -42,4 +42,4 @@ pub overflow_add-at : goal.overflow_add-at
 overflow_add-at c = omega (arith, next_narrow c.loop-k.invariant.along c.loop-k-test.true c.run_at-c.ensures)
 
 pub loop-k-preserved : goal.loop-k-preserved
-loop-k-preserved c = sifting_more c.loop-k.invariant c.loop-k-test.true c.run_at-c.ensures refl refl c.field_of.ensures c.with-more.ensures
+loop-k-preserved c = sifting_more c.loop-k.invariant c.loop-k-test.true c.run_at-c.ensures refl refl c.field_of.ensures c.add.ensures

@@ -7,4 +7,4 @@ use Rattle.card.proofs.sieve.sift_more.Given as goal
 abbrev pub invariant-loop-k : goal.invariant-loop-k
 invariant-loop-k l =
     let b = l.s.ruled.declared.table.bytes.now in
-    Sifting b (first_sample_in b l.i) l.v (rows_of l.more) l.m.first l.m.count l.at l.k
+    Sifting b (first_sample_in b l.i) l.v (rows_of l.sieve) l.m.first l.m.count l.at l.k

@@ -2,7 +2,7 @@
 use mathlib.Core.Path.{◌≡◌, sym, ap, subst, ◌∙◌}
 use mathlib.Core.List.{List}
 use Prim.Native.Nat.{ℕ}
-use Rattle.std.specs.Prelude.{Ok}
+use Rattle.std.specs.Prelude.{Ok, Some}
 use Rattle.std.specs.Borrow.{Bor}
 use Rattle.std.proofs.lemmas.Result.{err_from_is_err_and}
 use Rattle.model.specs.View.{view}
@@ -29,7 +29,7 @@ fitting {b} {k} f {d} e h = sym (subst (λ (x : Bor (List ℕ)). d ≡ fit_of (v
 pub returns-in_err-fit_of : goal.returns-in_err-fit_of
 unfolding fitted_compared
 returns-in_err-fit_of c =
-    let e = c.in_ok-r.ensures.ok_part in
+    let e = c.in_ok-r.ensures.ok_part ∙ ap Some (sym c.based-b.ensures) in
     let q = err_from_is_err_and c.from_residual-in_err-fit_of.result c.from_residual-in_err-fit_of.ensures.1 in
     rw (q.1, q.2)
     (sym (compared_frame _ _ _ (opened_accepted c.opening.ensures e) (fitting _ (c.opening.ensures.of _ e) c.in_err-fit_of.ensures)))
@@ -37,7 +37,7 @@ returns-in_err-fit_of c =
 pub returns : goal.returns
 unfolding fitted_compared
 returns c =
-    let e = c.in_ok-r.ensures.ok_part in
+    let e = c.in_ok-r.ensures.ok_part ∙ ap Some (sym c.based-b.ensures) in
     let b = c.opening.ensures.of _ e in
     c.compare_in.ensures
     ∙ ap (λ (x : Bor (List ℕ)). compared_in (view x.now) c.args.words.now) b

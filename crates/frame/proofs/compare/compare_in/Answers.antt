@@ -6,11 +6,11 @@ use Rattle.framing.proofs.CompareCases.{first_differs, all_agree}
 use Rattle.frame.proofs.compare.compare_in.Goals as goal
 
 pub loop-s-init : goal.loop-s-init
-loop-s-init c = record { counted = c.args.f.now.ruled.now.declared.table.opened_of.counts.subframes_is; within = omega arith; none = λ k l. absurd (not-suc-le-zero l) }
+loop-s-init c = record { counted = c.args.f.now.based.now.ruled.declared.table.opened_of.counts.subframes_is; within = omega arith; none = λ k l. absurd (not-suc-le-zero l) }
 
 pub returns-then-differs_in : goal.returns-then-differs_in
 returns-then-differs_in c =
-    let t = c.args.f.now.ruled.now.declared.table.bytes.now in
+    let t = c.args.f.now.based.now.ruled.declared.table.bytes.now in
     let f = c.args.f.now.words.now in
     let v = c.loop-s.invariant in
     sym (first_differs t f _ (omega (arith, v, c.loop-s-test.true)) (sym c.differs_in.ensures ∙ c.if-differs_in.true) v.none)
@@ -26,7 +26,7 @@ loop-s-preserved c =
 
 pub returns : goal.returns
 returns c =
-    let t = c.args.f.now.ruled.now.declared.table.bytes.now in
+    let t = c.args.f.now.based.now.ruled.declared.table.bytes.now in
     let f = c.args.f.now.words.now in
     let v = c.loop-s.invariant in
     sym (all_agree t f (λ k l. v.none k (omega (arith, v, l, c.loop-s-test.false))))

@@ -14,4 +14,4 @@ pub record Passed (b f : List ℕ) (subframes s : ℕ) : Type 0 where
   pub none : (k : ℕ) → k < s → differs_in (view b) f (k + 1) ≡ false
 
 abbrev pub invariant-loop-s : goal.invariant-loop-s
-invariant-loop-s l = Passed l.f.ruled.now.declared.table.bytes.now l.f.words.now l.subframes l.s
+invariant-loop-s l = Passed l.f.based.now.ruled.declared.table.bytes.now l.f.words.now l.subframes l.s

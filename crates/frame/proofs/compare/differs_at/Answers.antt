@@ -23,7 +23,7 @@ returns-then-not-has_identifier c =
     sym (no_identifier _ _ _ _ l (sym (identifier_flag _ _ c.parameter_at-e.ensures.flags_is c.has_identifier.ensures) ∙ c.if-not-has_identifier.true))
 
 -- the flag is set
-flagged : (c : After-has_identifier) → not c.has_identifier.result ≡ false → identifier_in c.args.f.now.ruled.now.declared.table.bytes.now c.args.i ≡ true
+flagged : (c : After-has_identifier) → not c.has_identifier.result ≡ false → identifier_in c.args.f.now.based.now.ruled.declared.table.bytes.now c.args.i ≡ true
 flagged c h = sym (identifier_flag _ _ c.parameter_at-e.ensures.flags_is c.has_identifier.ensures) ∙ not-false _ h
 
 pub returns-then-lies_in-s : goal.returns-then-lies_in-s
@@ -33,9 +33,9 @@ returns-then-lies_in-s c =
 
 pub holds_at-requires : goal.holds_at-requires
 holds_at-requires c =
-    let t = c.args.f.now.ruled.now.declared.table.bytes.now in
+    let t = c.args.f.now.based.now.ruled.declared.table.bytes.now in
     let i = c.args.i in
-    let r = c.args.f.now.ruled.now.ruled in
+    let r = c.args.f.now.based.now.ruled.ruled in
     let l = c.requires.i_bound in
     let e = c.parameter_at-e.ensures in
     let m = listed_at t i 0 r l (first_one t i r l) in
@@ -43,11 +43,11 @@ holds_at-requires c =
     record { sample_here = here_at t i 0 m q; sample_law = law_at t i 0 m q }
 
 -- what is held is the identifier's value
-held : (c : After-holds_at) → c.holds_at.result ≡ holds (subframes_of c.args.f.now.ruled.now.declared.table.bytes.now) c.args.f.now.words.now (sample (parameter_at c.args.f.now.ruled.now.declared.table.bytes.now c.args.i) 0) (value_in c.args.f.now.ruled.now.declared.table.bytes.now c.args.i)
+held : (c : After-holds_at) → c.holds_at.result ≡ holds (subframes_of c.args.f.now.based.now.ruled.declared.table.bytes.now) c.args.f.now.words.now (sample (parameter_at c.args.f.now.based.now.ruled.declared.table.bytes.now c.args.i) 0) (value_in c.args.f.now.based.now.ruled.declared.table.bytes.now c.args.i)
 held c =
-    let t = c.args.f.now.ruled.now.declared.table.bytes.now in
+    let t = c.args.f.now.based.now.ruled.declared.table.bytes.now in
     let i = c.args.i in
-    let r = c.args.f.now.ruled.now.ruled in
+    let r = c.args.f.now.based.now.ruled.ruled in
     let l = c.requires.i_bound in
     let e = c.parameter_at-e.ensures in
     c.holds_at.ensures

@@ -6,7 +6,7 @@ use Rattle.framing.proofs.CompareCases.{some_differs, none_differs}
 use Rattle.frame.proofs.compare.differs_in.Goals as goal
 
 pub loop-i-init : goal.loop-i-init
-loop-i-init c = record { counted = c.args.f.now.ruled.now.declared.table.opened_of.counts.parameters_is; within = omega arith; none = λ k l. absurd (not-suc-le-zero l) }
+loop-i-init c = record { counted = c.args.f.now.based.now.ruled.declared.table.opened_of.counts.parameters_is; within = omega arith; none = λ k l. absurd (not-suc-le-zero l) }
 
 pub differs_at-requires : goal.differs_at-requires
 differs_at-requires c =
@@ -14,7 +14,7 @@ differs_at-requires c =
 
 pub returns-then-differs_at : goal.returns-then-differs_at
 returns-then-differs_at c =
-    let t = c.args.f.now.ruled.now.declared.table.bytes.now in
+    let t = c.args.f.now.based.now.ruled.declared.table.bytes.now in
     let f = c.args.f.now.words.now in
     sym (some_differs t f c.args.s _ (omega (arith, c.loop-i.invariant, c.loop-i-test.true)) (sym c.differs_at.ensures ∙ c.if-differs_at.true))
 
@@ -29,7 +29,7 @@ loop-i-preserved c =
 
 pub returns : goal.returns
 returns c =
-    let t = c.args.f.now.ruled.now.declared.table.bytes.now in
+    let t = c.args.f.now.based.now.ruled.declared.table.bytes.now in
     let f = c.args.f.now.words.now in
     let v = c.loop-i.invariant in
     sym (none_differs t f c.args.s (λ i l. v.none i (omega (arith, v, l, c.loop-i-test.false))))

@@ -14,4 +14,4 @@ pub record Passed (b f : List ℕ) (s parameters i : ℕ) : Type 0 where
   pub none : (k : ℕ) → k < i → differs_at (view b) f s k ≡ false
 
 abbrev pub invariant-loop-i : goal.invariant-loop-i
-invariant-loop-i l = Passed l.f.ruled.now.declared.table.bytes.now l.f.words.now l.s l.parameters l.i
+invariant-loop-i l = Passed l.f.based.now.ruled.declared.table.bytes.now l.f.words.now l.s l.parameters l.i

@@ -32,15 +32,15 @@ module _ {b f : List ℕ} {i count limit first w : ℕ} (v : Passed b f i count 
 pub overflow_cast-e : goal.overflow_cast-e
 unfolding subframe_at
 overflow_cast-e c =
-    let f = (c.args.f.now.ruled.now.ruled.subframes.each c.args.i c.requires.i_bound).few_bits in
-    let w = c.args.f.now.ruled.now.ruled.subframes.within.bits in
+    let f = (c.args.f.now.based.now.ruled.ruled.subframes.each c.args.i c.requires.i_bound).few_bits in
+    let w = c.args.f.now.based.now.ruled.ruled.subframes.within.bits in
     omega (arith, f, w, c.subframe_at-e.ensures)
 
 pub power_of_two-limit-requires : goal.power_of_two-limit-requires
 unfolding subframe_at
 power_of_two-limit-requires c =
-    let f = (c.args.f.now.ruled.now.ruled.subframes.each c.args.i c.requires.i_bound).few_bits in
-    let w = c.args.f.now.ruled.now.ruled.subframes.within.bits in
+    let f = (c.args.f.now.based.now.ruled.ruled.subframes.each c.args.i c.requires.i_bound).few_bits in
+    let w = c.args.f.now.based.now.ruled.ruled.subframes.within.bits in
     omega (arith, f, w, c.subframe_at-e.ensures)
 
 pub loop-w-init : goal.loop-w-init
@@ -48,8 +48,8 @@ unfolding subframe_at
 loop-w-init c =
     let i = c.args.i in
     let l = c.requires.i_bound in
-    let f = (c.args.f.now.ruled.now.ruled.subframes.each i l).few_words in
-    let w = c.args.f.now.ruled.now.ruled.subframes.within.words in
+    let f = (c.args.f.now.based.now.ruled.ruled.subframes.each i l).few_words in
+    let w = c.args.f.now.based.now.ruled.ruled.subframes.within.words in
     let e = c.subframe_at-e.ensures in
     record {
       here = l;
@@ -57,8 +57,8 @@ loop-w-init c =
       counted = e.words_is;
       few = omega (arith, f, w, e);
       limits = c.power_of_two-limit.ensures ∙ ap (λ (n : ℕ). 2 ^ n) e.bits_is;
-      low = c.args.f.now.ruled.now.declared.bases_of.small i l;
-      place = λ k. ap (λ (n : ℕ). n + k) (c.args.f.now.ruled.now.declared.bases_of.each i l);
+      low = c.args.f.now.based.now.bases_of.small i l;
+      place = λ k. ap (λ (n : ℕ). n + k) (c.args.f.now.based.now.bases_of.each i l);
       within = omega arith;
       done = refl;
     }
@@ -74,7 +74,7 @@ bounds-f-first c = inside c.loop-w.invariant c.loop-w-test.true
 
 pub returns-then-limit-f : goal.returns-then-limit-f
 returns-then-limit-f c =
-    let b = c.args.f.now.ruled.now.declared.table.bytes.now in
+    let b = c.args.f.now.based.now.ruled.declared.table.bytes.now in
     let f = c.args.f.now.words.now in
     let v = c.loop-w.invariant in
     let l = c.loop-w-test.true in
@@ -85,7 +85,7 @@ returns-then-limit-f c =
 
 pub loop-w-preserved : goal.loop-w-preserved
 loop-w-preserved c =
-    let b = c.args.f.now.ruled.now.declared.table.bytes.now in
+    let b = c.args.f.now.based.now.ruled.declared.table.bytes.now in
     let f = c.args.f.now.words.now in
     let v = c.loop-w.invariant in
     let l = c.loop-w-test.true in
@@ -103,7 +103,7 @@ loop-w-preserved c =
 
 pub returns : goal.returns
 returns c =
-    let b = c.args.f.now.ruled.now.declared.table.bytes.now in
+    let b = c.args.f.now.based.now.ruled.declared.table.bytes.now in
     let v = c.loop-w.invariant in
     let full : c.loop-w.w ≡ words_in b c.args.i = omega (arith, v, c.loop-w-test.false) in
     sym (fits_view b c.args.f.now.words.now c.args.i v.here ∙ (rw full at v.done))

@@ -25,4 +25,4 @@ pub record Passed (b f : List ℕ) (i count limit first w : ℕ) : Type 0 where
   pub done : all w (word_fits b f i) ≡ true
 
 abbrev pub invariant-loop-w : goal.invariant-loop-w
-invariant-loop-w l = Passed l.f.ruled.now.declared.table.bytes.now l.f.words.now l.i l.count l.limit l.first l.w
+invariant-loop-w l = Passed l.f.based.now.ruled.declared.table.bytes.now l.f.words.now l.i l.count l.limit l.first l.w

@@ -6,4 +6,4 @@ use Rattle.framing.specs.Fitting.{subframe_fits}
 use Rattle.frame.proofs.fit.words_ok.Given as goal
 
 abbrev pub invariant-loop-i : goal.invariant-loop-i
-invariant-loop-i l = Passed (subframes_in l.f.ruled.now.declared.table.bytes.now) (subframe_fits (view l.f.ruled.now.declared.table.bytes.now) l.f.words.now) l.subframes l.i
+invariant-loop-i l = Passed (subframes_in l.f.based.now.ruled.declared.table.bytes.now) (subframe_fits (view l.f.based.now.ruled.declared.table.bytes.now) l.f.words.now) l.subframes l.i

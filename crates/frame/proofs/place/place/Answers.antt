@@ -61,12 +61,12 @@ returns-then-laps_in c =
 pub returns-in_err-i : goal.returns-in_err-i
 returns-in_err-i c =
     let q = err_from_is_err_and c.from_residual-in_err-i.result c.from_residual-in_err-i.ensures.1 in
-    let h = not_wanted _ _ _ _ c.args.value (lapped c.opening.ensures c.in_ok-r.ensures.ok_part _ _ c.laps_in.ensures c.if-laps_in.false) _ (sym (sought c.opening.ensures c.in_ok-r.ensures.ok_part _ _ _ c.fit_of.ensures c.in_err-i.ensures)) in
+    let h = not_wanted _ _ _ _ c.args.value (lapped c.opening.ensures c.in_ok-r.ensures.ok_part _ _ c.laps_in.ensures c.if-laps_in.false) _ (sym (sought c.opening.ensures (c.in_ok-r.ensures.ok_part ∙ ap Some (sym c.based-b.ensures)) _ _ _ c.fit_of.ensures c.in_err-i.ensures)) in
     rw (q.1, q.2) (sym h.answer, sym h.frame)
 
 pub width_in-requires : goal.width_in-requires
 width_in-requires c =
-    let h = wanted_found _ _ _ _ _ _ (sym (wanted_there c.opening.ensures c.in_ok-r.ensures.ok_part _ _ _ c.fit_of.ensures c.in_ok-i.ensures)) in
+    let h = wanted_found _ _ _ _ _ _ (sym (wanted_there c.opening.ensures (c.in_ok-r.ensures.ok_part ∙ ap Some (sym c.based-b.ensures)) _ _ _ c.fit_of.ensures c.in_ok-i.ensures)) in
     record { i_bound = h.parameter; j_bound = h.sample }
 
 pub power_of_two-requires : goal.power_of_two-requires
@@ -74,19 +74,19 @@ power_of_two-requires c = omega (arith, c.width_in.ensures.1)
 
 pub returns-then-power_of_two-value : goal.returns-then-power_of_two-value
 returns-then-power_of_two-value c =
-    let n = same c.opening.ensures c.in_ok-r.ensures.ok_part in
+    let n = same c.opening.ensures (c.in_ok-r.ensures.ok_part ∙ ap Some (sym c.based-b.ensures)) in
     let e = ap (λ (n : ℕ). 2 ^ n) (c.width_in.ensures.0 ∙ ap (λ (x : List ℕ). width_is (view x) c.in_ok-i.i c.in_ok-i.j) n) in
-    let h = too_large _ _ _ _ c.args.value (lapped c.opening.ensures c.in_ok-r.ensures.ok_part _ _ c.laps_in.ensures c.if-laps_in.false) _ _ (sym (sought c.opening.ensures c.in_ok-r.ensures.ok_part _ _ _ c.fit_of.ensures c.in_ok-i.ensures)) (omega (arith, c.power_of_two.ensures, e, c.if-power_of_two-value.true)) in
+    let h = too_large _ _ _ _ c.args.value (lapped c.opening.ensures c.in_ok-r.ensures.ok_part _ _ c.laps_in.ensures c.if-laps_in.false) _ _ (sym (sought c.opening.ensures (c.in_ok-r.ensures.ok_part ∙ ap Some (sym c.based-b.ensures)) _ _ _ c.fit_of.ensures c.in_ok-i.ensures)) (omega (arith, c.power_of_two.ensures, e, c.if-power_of_two-value.true)) in
     (sym h.answer, sym h.frame)
 
 pub place_in-requires : goal.place_in-requires
 place_in-requires c =
-    let h = wanted_found _ _ _ _ _ _ (sym (wanted_there c.opening.ensures c.in_ok-r.ensures.ok_part _ _ _ c.fit_of.ensures c.in_ok-i.ensures)) in
+    let h = wanted_found _ _ _ _ _ _ (sym (wanted_there c.opening.ensures (c.in_ok-r.ensures.ok_part ∙ ap Some (sym c.based-b.ensures)) _ _ _ c.fit_of.ensures c.in_ok-i.ensures)) in
     record { i_bound = h.parameter; j_bound = h.sample; words_len = h.long }
 
 pub returns : goal.returns
 returns c =
-    let n = same c.opening.ensures c.in_ok-r.ensures.ok_part in
+    let n = same c.opening.ensures (c.in_ok-r.ensures.ok_part ∙ ap Some (sym c.based-b.ensures)) in
     let e = ap (λ (n : ℕ). 2 ^ n) (c.width_in.ensures.0 ∙ ap (λ (x : List ℕ). width_is (view x) c.in_ok-i.i c.in_ok-i.j) n) in
-    let h = done _ _ _ _ c.args.value (lapped c.opening.ensures c.in_ok-r.ensures.ok_part _ _ c.laps_in.ensures c.if-laps_in.false) _ _ (sym (sought c.opening.ensures c.in_ok-r.ensures.ok_part _ _ _ c.fit_of.ensures c.in_ok-i.ensures)) (omega (arith, c.power_of_two.ensures, e, c.if-power_of_two-value.false)) in
+    let h = done _ _ _ _ c.args.value (lapped c.opening.ensures c.in_ok-r.ensures.ok_part _ _ c.laps_in.ensures c.if-laps_in.false) _ _ (sym (sought c.opening.ensures (c.in_ok-r.ensures.ok_part ∙ ap Some (sym c.based-b.ensures)) _ _ _ c.fit_of.ensures c.in_ok-i.ensures)) (omega (arith, c.power_of_two.ensures, e, c.if-power_of_two-value.false)) in
     (sym h.answer, c.place_in.ensures ∙ ap (λ (x : List ℕ). placed c.args.words.now (pieces (view x).subframes (sample (parameter (view x) c.in_ok-i.i) c.in_ok-i.j)) c.args.value) n ∙ sym h.frame)

@@ -8,7 +8,7 @@ use Rattle.frame.proofs.read.agrees_at.Goals as goal
 
 pub returns-then-not-laps : goal.returns-then-not-laps
 returns-then-not-laps c =
-    let b = c.args.f.now.ruled.now.declared.table.bytes.now in
+    let b = c.args.f.now.based.now.ruled.declared.table.bytes.now in
     let f = c.args.f.now.words.now in
     let s = sample_at b c.args.j in
     sym

@@ -16,4 +16,4 @@ pub record Held (b f : List ℕ) (j v count at k : ℕ) : Type 0 where
   pub narrow : (limits_in b).width ≤ 32
 
 abbrev pub invariant-loop-k : goal.invariant-loop-k
-invariant-loop-k l = Held l.f.ruled.now.declared.table.bytes.now l.f.words.now l.j l.v l.count l.at l.k
+invariant-loop-k l = Held l.f.based.now.ruled.declared.table.bytes.now l.f.words.now l.j l.v l.count l.at l.k

@@ -68,14 +68,14 @@ sample_at-s-requires c =
 pub loop-k-init : goal.loop-k-init
 unfolding width_of
 loop-k-init c =
-    let b = c.args.f.now.ruled.now.declared.table.bytes.now in
+    let b = c.args.f.now.based.now.ruled.declared.table.bytes.now in
     let e = c.sample_at-s.ensures in
     record {
       firsts = e.first_is;
       counted = e.count_is;
       inside = omega arith;
-      narrow = omega (arith, c.requires.sample_law.narrow, c.args.f.now.ruled.now.ruled.subframes.within.width);
-      done = joining_starts _ _ (within b c.args.f.now.words.now c.args.j c.args.f.now.ruled.now.ruled c.requires.sample_law c.args.f.now.words_len);
+      narrow = omega (arith, c.requires.sample_law.narrow, c.args.f.now.based.now.ruled.ruled.subframes.within.width);
+      done = joining_starts _ _ (within b c.args.f.now.words.now c.args.j c.args.f.now.based.now.ruled.ruled c.requires.sample_law c.args.f.now.words_len);
       overs = refl;
       few = e.count_below;
       small = omega arith;
@@ -83,13 +83,13 @@ loop-k-init c =
 
 pub piece_at-c-requires : goal.piece_at-c-requires
 piece_at-c-requires c =
-    let b = c.args.f.now.ruled.now.declared.table.bytes.now in
+    let b = c.args.f.now.based.now.ruled.declared.table.bytes.now in
     let v = c.loop-k.invariant in
     let l = c.loop-k-test.true in
     let k = c.loop-k.k in
-    let r = stored b c.args.j c.args.f.now.ruled.now.ruled.subframes.within c.requires.sample_law in
+    let r = stored b c.args.j c.args.f.now.based.now.ruled.ruled.subframes.within c.requires.sample_law in
     let law = subst (λ (n : ℕ). ComponentLaw (subframes_of b) (component_at b (n + k))) (sym v.firsts) (r.each k (omega (arith, v, l))) in
-    record { k_bound = omega (arith, v, l, c.requires.sample_here); component_law = law }
+    record { k_bound = omega (arith, v, l, c.requires.sample_here); bases_of = c.args.f.now.based.now.bases_of; component_law = law }
 
 pub part-requires : goal.part-requires
 part-requires c = fits c.loop-k.invariant c.loop-k-test.true c.piece_at-c.ensures
@@ -127,14 +127,14 @@ loop-k-preserved c =
     let v = c.loop-k.invariant in
     let l = c.loop-k-test.true in
     let e = c.component_at-e.ensures in
-    let x = overlap_read c.args.f.now.ruled.now.declared.table.bytes.now c.args.j c.loop-k.k _ v.firsts (omega (arith, v, l)) e in
+    let x = overlap_read c.args.f.now.based.now.ruled.declared.table.bytes.now c.args.j c.loop-k.k _ v.firsts (omega (arith, v, l)) e in
     record {
       firsts = v.firsts;
       counted = v.counted;
       inside = omega (arith, v, l);
       narrow = v.narrow;
       done = step v l c.piece_at-c.ensures c.part.ensures c.raised-raw.ensures c.bits_of-width.ensures.0;
-      overs = omega (arith, v.overs, x, sum_more c.loop-k.k (λ i. (component (sample_at c.args.f.now.ruled.now.declared.table.bytes.now c.args.j) i).overlap));
+      overs = omega (arith, v.overs, x, sum_more c.loop-k.k (λ i. (component (sample_at c.args.f.now.based.now.ruled.declared.table.bytes.now c.args.j) i).overlap));
       few = v.few;
       small = omega (arith, v, e.overlap_below);
     }
@@ -142,7 +142,7 @@ loop-k-preserved c =
 pub returns : goal.returns
 returns c =
     let f = c.args.f.now.words.now in
-    let cs = all_pieces c.args.f.now.ruled.now.declared.table.bytes.now c.args.j in
+    let cs = all_pieces c.args.f.now.based.now.ruled.declared.table.bytes.now c.args.j in
     let e = ended c.loop-k.invariant c.loop-k-test.false in
     let raw_is : c.loop-k.raw ≡ join f cs = joining_raw _ _ e in
     let width_is : c.loop-k.width ≡ width cs = joining_width _ _ e in record {

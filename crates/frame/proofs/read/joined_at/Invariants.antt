@@ -28,4 +28,4 @@ pub record Passed (b f : List ℕ) (j first count raw wide over k : ℕ) : Type 
   pub small : over ≤ 4294967295 * k
 
 abbrev pub invariant-loop-k : goal.invariant-loop-k
-invariant-loop-k l = Passed l.f.ruled.now.declared.table.bytes.now l.f.words.now l.j l.first l.count l.raw l.width l.over l.k
+invariant-loop-k l = Passed l.f.based.now.ruled.declared.table.bytes.now l.f.words.now l.j l.first l.count l.raw l.width l.over l.k

@@ -31,16 +31,16 @@ overflow_add-e c =
 
 pub joined_at-h-requires : goal.joined_at-h-requires
 joined_at-h-requires c =
-    let t = c.args.f.now.ruled.now.declared.table.bytes.now in
-    let m = listed_at t c.args.i c.args.j c.args.f.now.ruled.now.ruled c.requires.i_bound c.requires.j_bound in
+    let t = c.args.f.now.based.now.ruled.declared.table.bytes.now in
+    let m = listed_at t c.args.i c.args.j c.args.f.now.based.now.ruled.ruled c.requires.i_bound c.requires.j_bound in
     let q = ap (λ (f : ℕ). f + c.args.j) c.parameter_at-e.ensures.first_is in
     record { sample_here = here_at t _ _ m q; sample_law = law_at t _ _ m q }
 
 -- what is joined is the listed sample's
-read : (c : After-joined_at-h) → JoinedOf c.args.f.now.ruled.now.declared.table.bytes.now c.args.f.now.words.now c.args.i c.args.j c.joined_at-h.result.joined
+read : (c : After-joined_at-h) → JoinedOf c.args.f.now.based.now.ruled.declared.table.bytes.now c.args.f.now.words.now c.args.i c.args.j c.joined_at-h.result.joined
 read c =
-    let t = c.args.f.now.ruled.now.declared.table.bytes.now in
-    let m = listed_at t c.args.i c.args.j c.args.f.now.ruled.now.ruled c.requires.i_bound c.requires.j_bound in
+    let t = c.args.f.now.based.now.ruled.declared.table.bytes.now in
+    let m = listed_at t c.args.i c.args.j c.args.f.now.based.now.ruled.ruled c.requires.i_bound c.requires.j_bound in
     let q = ap (λ (f : ℕ). f + c.args.j) c.parameter_at-e.ensures.first_is in
     joined_read t _ _ m q _ _ c.joined_at-h.ensures.joins
 
@@ -49,17 +49,17 @@ overflow_add-e-2 c = omega (arith, c.parameter_at-e.ensures, c.requires.j_bound)
 
 pub agrees_at-agrees-requires : goal.agrees_at-agrees-requires
 agrees_at-agrees-requires c =
-    let t = c.args.f.now.ruled.now.declared.table.bytes.now in
-    let m = listed_at t c.args.i c.args.j c.args.f.now.ruled.now.ruled c.requires.i_bound c.requires.j_bound in
+    let t = c.args.f.now.based.now.ruled.declared.table.bytes.now in
+    let m = listed_at t c.args.i c.args.j c.args.f.now.based.now.ruled.ruled c.requires.i_bound c.requires.j_bound in
     let q = ap (λ (f : ℕ). f + c.args.j) c.parameter_at-e.ensures.first_is in
     record { sample_here = here_at t _ _ m q; sample_law = law_at t _ _ m q; raw_value = c.joined_at-h.ensures.joins.raw_is; laps_value = c.joined_at-h.ensures.laps_value }
 
 -- whether its copies agree
-agreed : (c : After-agrees_at-agrees) → c.agrees_at-agrees.result ≡ copies_agree (view c.args.f.now.ruled.now.declared.table.bytes.now) c.args.f.now.words.now c.args.i c.args.j
+agreed : (c : After-agrees_at-agrees) → c.agrees_at-agrees.result ≡ copies_agree (view c.args.f.now.based.now.ruled.declared.table.bytes.now) c.args.f.now.words.now c.args.i c.args.j
 unfolding copies_agree
 agreed c =
-    let t = c.args.f.now.ruled.now.declared.table.bytes.now in
-    let m = listed_at t c.args.i c.args.j c.args.f.now.ruled.now.ruled c.requires.i_bound c.requires.j_bound in
+    let t = c.args.f.now.based.now.ruled.declared.table.bytes.now in
+    let m = listed_at t c.args.i c.args.j c.args.f.now.based.now.ruled.ruled c.requires.i_bound c.requires.j_bound in
     let q = ap (λ (f : ℕ). f + c.args.j) c.parameter_at-e.ensures.first_is in
     let r = read (goal.at.After-agrees_at-agrees c).After-joined_at-h in
     c.agrees_at-agrees.ensures
@@ -76,7 +76,7 @@ unfolding sample_read
 returns-then-has_signed c =
     let r = read (goal.at.returns-then-has_signed c).After-joined_at-h in
     let e = c.parameter_at-e.ensures in
-    let g : signed_in c.args.f.now.ruled.now.declared.table.bytes.now c.args.i ≡ true = sym (signed_flag _ _ e.flags_is c.has_signed.ensures) ∙ c.if-has_signed.true in
+    let g : signed_in c.args.f.now.based.now.ruled.declared.table.bytes.now c.args.i ≡ true = sym (signed_flag _ _ e.flags_is c.has_signed.ensures) ∙ c.if-has_signed.true in
     let z : SFits w64 c.sign-value.result = sfits_of c.sign-value.type_inv in
     c.reading_of.ensures
     ∙ same_reading (agreed (goal.at.returns-then-has_signed c).After-agrees_at-agrees) r.raw r.wide
@@ -93,7 +93,7 @@ unfolding sample_read
 returns c =
     let r = read (goal.at.returns c).After-joined_at-h in
     let e = c.parameter_at-e.ensures in
-    let g : signed_in c.args.f.now.ruled.now.declared.table.bytes.now c.args.i ≡ false = sym (signed_flag _ _ e.flags_is c.has_signed.ensures) ∙ c.if-has_signed.false in
+    let g : signed_in c.args.f.now.based.now.ruled.declared.table.bytes.now c.args.i ≡ false = sym (signed_flag _ _ e.flags_is c.has_signed.ensures) ∙ c.if-has_signed.false in
     c.reading_of-2.ensures
     ∙ same_reading (agreed (goal.at.returns c).After-agrees_at-agrees) r.raw r.wide
     (to_z_pos w64 (lt_of_lt_of_le (raw_32 r.below r.narrow) (lit≤ tt)) ∙ ap pos r.raw ∙ sym (value_plain _ _ _ _ c.requires.i_bound g))

@@ -15,8 +15,8 @@ put_read-requires-in-OverlapDiffers c = c.requires
 
 pub returns-in-Sample : goal.returns-in-Sample
 returns-in-Sample c =
-    let t = c.args.f.now.ruled.now.declared.table.bytes.now in
-    let u = c.args.f.now.ruled.now.ruled in
+    let t = c.args.f.now.based.now.ruled.declared.table.bytes.now in
+    let u = c.args.f.now.based.now.ruled.ruled in
     let l = c.requires.i_bound in
     let e = sym c.in-Sample.is ∙ c.sample_in.ensures in
     read_row t u c.args.i l _ _ _ _ _ _ _ _ _ _ _ e (refl, refl, refl) refl
@@ -24,8 +24,8 @@ returns-in-Sample c =
 
 pub returns-in-OverlapDiffers : goal.returns-in-OverlapDiffers
 returns-in-OverlapDiffers c =
-    let t = c.args.f.now.ruled.now.declared.table.bytes.now in
-    let u = c.args.f.now.ruled.now.ruled in
+    let t = c.args.f.now.based.now.ruled.declared.table.bytes.now in
+    let u = c.args.f.now.based.now.ruled.ruled in
     let l = c.requires.i_bound in
     let e = sym c.in-OverlapDiffers.is ∙ c.sample_in.ensures in
     read_row t u c.args.i l _ _ _ _ _ _ _ _ _ _ _ e (refl, refl, refl) refl

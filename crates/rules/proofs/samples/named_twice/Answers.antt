@@ -37,12 +37,13 @@ pub loop-i-init : goal.loop-i-init
 loop-i-init c =
     let w = c.loop-k.invariant in
     let l = c.loop-k-test.true in
+    let e = c.saturating_sub-last.ensures in
     record {
       firsts = w.firsts;
       counted = w.counted;
-      inside = omega (arith, l);
-      within = omega (arith, l);
-      rest = twice_row _ _ _ (whole_next c.args.t.now.bytes.now c.args.j c.loop-k.k (omega (arith, w, l))) w.rest;
+      inside = omega (arith, l, e);
+      within = omega (arith, l, e);
+      rest = twice_row _ _ _ (whole_next c.args.t.now.bytes.now c.args.j c.loop-k.k (omega (arith, w, l, e))) w.rest;
     }
 
 pub overflow_add-first : goal.overflow_add-first
@@ -86,7 +87,7 @@ loop-k-preserved c =
 pub returns : goal.returns
 returns c =
     let w = c.loop-k.invariant in
-    last _ (omega (arith, wholes_left c.args.t.now.bytes.now c.args.j c.loop-k.k, w.counted, c.loop-k-test.false)) w.rest
+    last _ (omega (arith, wholes_left c.args.t.now.bytes.now c.args.j c.loop-k.k, w.counted, c.saturating_sub-last.ensures, c.loop-k-test.false)) w.rest
 
 pub returns-then-clashes : goal.returns-then-clashes
 returns-then-clashes c =

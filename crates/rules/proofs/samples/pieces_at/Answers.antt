@@ -32,10 +32,10 @@ piece_at-c-requires c =
     let v = c.loop-k.invariant in
     let l = c.loop-k-test.true in
     let h = c.requires.pieces_here in
-    record { k_bound = omega (arith, v, l, c.requires.sample_here); component_law = subst (λ (f : ℕ). ComponentLaw (subframes_of b) (component_at b (f + c.loop-k.k))) (sym v.firsts) (h.each c.loop-k.k (omega (arith, v, l))) }
+    record { k_bound = omega (arith, v, l, c.requires.sample_here); bases_of = c.requires.bases_of; component_law = subst (λ (f : ℕ). ComponentLaw (subframes_of b) (component_at b (f + c.loop-k.k))) (sym v.firsts) (h.each c.loop-k.k (omega (arith, v, l))) }
 
-pub with-cs-requires : goal.with-cs-requires
-with-cs-requires c = omega (arith, c.loop-k.invariant, c.loop-k-test.true, c.requires.pieces_here)
+pub add-requires : goal.add-requires
+add-requires c = omega (arith, c.loop-k.invariant, c.loop-k-test.true, c.requires.pieces_here)
 
 pub loop-k-preserved : goal.loop-k-preserved
 loop-k-preserved c =
@@ -48,9 +48,9 @@ loop-k-preserved c =
       firsts = v.firsts;
       counted = v.counted;
       within = omega (arith, v, c.loop-k-test.true);
-      many = omega (arith, v, c.with-cs.ensures.0);
+      many = omega (arith, v, c.add.ensures.0);
       held =
-          c.with-cs.ensures.1
+          c.add.ensures.1
           ∙ ap₂ (λ (l : List Component) (x : Component). l ++ (x ∷ [])) v.held (c.piece_at-c.ensures ∙ q)
           ∙ sym (ap (λ (n : ℕ). tab n (λ k. stands b (first_component_in b c.args.j + k))) one);
     }

@@ -17,15 +17,15 @@ overflow_sub-home c =
     let b = c.args.d.now.table.bytes.now in
     omega (arith, c.component_at-c.ensures, c.requires.component_law, subframes_view b, c.args.d.now.table.opened_of.sized)
 
-pub offset_bounds-d-home : goal.offset_bounds-d-home
+pub offset_bounds-before-home : goal.offset_bounds-before-home
 unfolding component_at
-offset_bounds-d-home c =
+offset_bounds-before-home c =
     let b = c.args.d.now.table.bytes.now in
     omega (arith, c.component_at-c.ensures, c.requires.component_law, subframes_view b, c.args.d.now.table.opened_of.sized)
 
-pub bounds-d-home : goal.bounds-d-home
+pub bounds-before-home : goal.bounds-before-home
 unfolding component_at
-bounds-d-home c =
+bounds-before-home c =
     let b = c.args.d.now.table.bytes.now in
     omega (arith, c.component_at-c.ensures, c.requires.component_law, subframes_view b, c.args.d.now.table.opened_of.sized)
 
@@ -39,7 +39,7 @@ position_of-word-requires c =
     let e = c.component_at-c.ensures in
     let w = c.requires.component_law in
     let v = subframes_view b in
-    let h = c.args.d.now.bases_of.small (c.component_at-c.result.subframe - 1) (omega (arith, e, w, v)) in
+    let h = c.requires.bases_of.small (c.component_at-c.result.subframe - 1) (omega (arith, e, w, v)) in
     (omega (arith, h), omega (arith, e, w), omega (arith, e, word_small b c.args.d.now.subframes_law _ w))
 
 pub overflow_cast-result : goal.overflow_cast-result
@@ -57,7 +57,7 @@ returns c =
     let w = c.requires.component_law in
     let v = subframes_view b in
     let home = c.component_at-c.result.subframe - 1 in
-    let h = c.args.d.now.bases_of.each home (omega (arith, e, w, v)) in
+    let h = c.requires.bases_of.each home (omega (arith, e, w, v)) in
     let q : home + 1 ≡ home_in b k = omega (arith, e, w) in
     let word = c.position_of-word.ensures ∙ ap₂ (λ (x y : ℕ). x + (y - 1)) (h ∙ ap (λ (x : ℕ). before (word_counts (subframes_of b)) x) q) e.word_is in
     let low = e.low_is in

@@ -9,7 +9,7 @@ use Rattle.framing.specs.Fitting.{Fit, fit_of}
 use Rattle.framing.specs.Wanted.{Wanted, wanted_by, wanted_in}
 use Rattle.framing.specs.Reading.{read_for}
 use Rattle.framing.proofs.WantCases.{wanted_found}
-use Rattle.frame.proofs.read.read_in.Goals as goal
+use Rattle.frame.proofs.read.read_numbered.Goals as goal
 
 -- what was wanted, of the frame itself
 sought : (b f : List ℕ) (p s : ℕ) {d : Fit} {w : Wanted} → d ≡ fit_of (view b) f → w ≡ wanted_by (view b) d p s → w ≡ wanted_in (view b) f p s

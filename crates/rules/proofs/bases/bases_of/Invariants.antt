@@ -8,7 +8,7 @@ use Rattle.model.specs.Samples.{word_counts}
 use Rattle.model.specs.Forms.{sheet_limits}
 use Rattle.model.specs.Stored.{subframes_in}
 use Rattle.rules.specs.Ruled.{subframes_of}
-use Rattle.rules.proofs.bases.declared.Given as goal
+use Rattle.rules.proofs.bases.bases_of.Given as goal
 
 pub record Passed (b : List ℕ) (subframes : ℕ) (list : List ℕ) (sum i : ℕ) : Type 0 where
   pub counted : subframes ≡ subframes_in b
@@ -20,4 +20,4 @@ pub record Passed (b : List ℕ) (subframes : ℕ) (list : List ℕ) (sum i : �
   pub low : (k : ℕ) → k < i → get_or list k 0 ≤ sheet_limits.words * sheet_limits.subframes
 
 abbrev pub invariant-loop-i : goal.invariant-loop-i
-invariant-loop-i l = Passed l.t.bytes.now l.subframes l.before l.sum l.i
+invariant-loop-i l = Passed l.t l.subframes l.before l.sum l.i
