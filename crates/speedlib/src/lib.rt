@@ -10,6 +10,7 @@ use frame::sized::Frame;
 use framing::read::Reading;
 use rules::based::BasedTable;
 use rules::bases::based;
+use rules::ruled::RuledTable;
 use table::check::opening;
 
 // Sample j of parameter i, both counted from 0.
@@ -59,7 +60,18 @@ fn frame_values(b: &BasedTable, words: &[u16], values: &mut [i64]) -> usize {
     }
 }
 
-// The frame so many times over, after one check; answers how many samples it has, none where table or frame is refused.
+// The frame so many times over; answers how many samples it has. (A function of its own: where it stands behind the check, the
+// table's memory is cleared first, by a call that the archive is not to need.)
+fn repeated(r: &RuledTable, words: &[u16], values: &mut [i64], times: u32) -> usize {
+    let b = based(r);
+    let mut count = 0;
+    for _ in 0..times {
+        count = frame_values(&b, words, values);
+    }
+    count
+}
+
+// The same after one check; none where table or frame is refused.
 #[unsafe(no_mangle)]
 pub extern "C" fn speed_read_all(
     table: &[u8],
@@ -67,13 +79,8 @@ pub extern "C" fn speed_read_all(
     values: &mut [i64],
     times: u32,
 ) -> usize {
-    let Some(r) = opening(table) else {
-        return 0;
-    };
-    let b = based(&r);
-    let mut count = 0;
-    for _ in 0..times {
-        count = frame_values(&b, words, values);
+    match opening(table) {
+        Some(r) => repeated(&r, words, values, times),
+        None => 0,
     }
-    count
 }
